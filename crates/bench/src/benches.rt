@@ -1,0 +1,47 @@
+// What every bench answers and leaves.
+ghost use mathlib.Core.Path.{_≡_};
+ghost use Rattle.bench.specs.Model.{told, Lawful, Memory, lanesIn, showAnswer, setAnswer, gateAnswer, written, gated, writtenIn, gatedIn, after};
+ghost use mathlib.Core.Bool.{Bool};
+ghost use Prim.Native.Nat.{ℕ};
+use crate::faults::Fault;
+use crate::kinds::Kind;
+
+pub trait Bench {
+    ghost registers: { Self → ℕ };
+
+    ghost lanes: { Self → ℕ };
+
+    ghost left: { Self → ℕ };
+
+    ghost bit: { Self → ℕ → ℕ → Bool };
+
+    // The bottom benches beneath, each with its memory.
+    ghost beneath: { Self → Memory };
+
+    // Shown by each `impl`.
+    ghost tied: { (s : Self) → lanesIn (beneath s) ≡ lanes s };
+
+    ghost lawful: { (s : Self) → Lawful (told registers lanes left shows s) };
+
+    fn registers(&self) -> u16
+        ensures { λ r. ⌜ r ≡ registers (now (self .entry)) ⌝ };
+
+    fn lanes(&self) -> u16
+        ensures { λ r. ⌜ r ≡ lanes (now (self .entry)) ⌝ };
+
+    fn left(&self) -> u32
+        ensures { λ r. ⌜ r ≡ left (now (self .entry)) ⌝ };
+
+    fn show(&self, register: u16, lane: u16) -> Result<bool, Fault>
+        ensures { λ r. ⌜ r ≡ showAnswer (told registers lanes left shows (now (self .entry))) register lane ⌝ };
+
+    fn set(&mut self, register: u16, lane: u16, value: bool) -> Result<(), Fault>
+        ensures answer { λ r. ⌜ r ≡ setAnswer (told registers lanes left shows (now (self .entry))) register lane ⌝ }
+        ensures leaves { λ r. ⌜ told registers lanes left shows (now (self .exit)) ≡ after r (written register lane value (told registers lanes left shows (now (self .entry)))) (told registers lanes left shows (now (self .entry))) ⌝ }
+        ensures beneath { λ r. ⌜ beneath (now (self .exit)) ≡ after r (writtenIn register lane value (beneath (now (self .entry)))) (beneath (now (self .entry))) ⌝ };
+
+    fn gate(&mut self, kind: Kind, target: u16, a: u16, b: u16) -> Result<(), Fault>
+        ensures answer { λ r. ⌜ r ≡ gateAnswer (told registers lanes left shows (now (self .entry))) target a b ⌝ }
+        ensures leaves { λ r. ⌜ told registers lanes left shows (now (self .exit)) ≡ after r (gated kind target a b (told registers lanes left shows (now (self .entry)))) (told registers lanes left shows (now (self .entry))) ⌝ }
+        ensures beneath { λ r. ⌜ beneath (now (self .exit)) ≡ after r (gatedIn kind target a b (beneath (now (self .entry)))) (beneath (now (self .entry))) ⌝ };
+}

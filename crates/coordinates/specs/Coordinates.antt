@@ -1,0 +1,34 @@
+-- The coordinates in which bytes stay through the rounds. Assumes nothing.
+--
+-- The field of 256 elements is built from the one of two by three steps of degree two, as in D. Canright's tower:
+-- over 1b and fa, then 01 and 5c, then bd and bc. A byte's coordinates c0 to c7 are the eight bits for which
+-- the XOR of the chosen bytes 66 7d 4c c9 36 cc 11 98 is that byte.
+--
+--   fromCoordinates c   the byte whose coordinates are the bits of c, c0 the lowest
+--   toCoordinates b     the coordinates of b
+use Prim.Native.Nat.{ℕ, suc}
+use mathlib.Core.Bool.{cond}
+use mathlib.Core.List.{List, [], _∷_}
+use lib.Bits.{bitXor}
+use Rattle.standard.specs.Bits.{bit}
+
+-- the XOR of those bytes of a list whose bit of v is set, the first byte for bit i
+unfoldable pub combine : List ℕ → ℕ → ℕ → ℕ
+unfolding bit
+combine [] i v = 0
+combine (c ∷ cs) i v = bitXor (cond (bit v i) c 0) (combine cs (suc i) v)
+
+abbrev pub basis : List ℕ
+basis = 0x66 ∷ 0x7d ∷ 0x4c ∷ 0xc9 ∷ 0x36 ∷ 0xcc ∷ 0x11 ∷ 0x98 ∷ []
+
+unfoldable pub fromCoordinates : ℕ → ℕ
+unfolding combine
+fromCoordinates c = combine basis 0 c
+
+-- the coordinates of 01, 02, 04, .., 80
+abbrev pub bitsInBasis : List ℕ
+bitsInBasis = 0x99 ∷ 0x3e ∷ 0xb1 ∷ 0x7d ∷ 0xd9 ∷ 0x46 ∷ 0xc8 ∷ 0x24 ∷ []
+
+unfoldable pub toCoordinates : ℕ → ℕ
+unfolding combine
+toCoordinates b = combine bitsInBasis 0 b

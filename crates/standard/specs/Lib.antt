@@ -1,0 +1,5 @@
+pub mod Bits
+pub mod Field
+pub mod Cipher
+pub mod KeyExpansion
+pub mod Kinds
