@@ -13,6 +13,10 @@ use Rattle.bench.specs.declared.kinds.Kind.{Kind}
 use Rattle.bench.specs.Faults.{fault}
 use Rattle.bench.specs.Kinds.{result}
 
+-- what a bench tells beside its size and its gates left
+pub record Shown : Type 0 where
+  pub bit : ℕ → ℕ → Bool
+
 pub record Model : Type 0 where
   pub registers : ℕ
   pub lanes : ℕ
@@ -25,8 +29,8 @@ pub data Memory : Type 0 where
   both : Memory → Memory → Memory
 
 -- the meaning that a bench's four members tell
-abbrev pub told : {S : Type 0} → (S → ℕ) → (S → ℕ) → (S → ℕ) → (S → ℕ → ℕ → Bool) → S → Model
-told registers lanes left shows s = record { registers = registers s; lanes = lanes s; left = left s; bit = bit s }
+abbrev pub told : {S : Type 0} → (S → ℕ) → (S → ℕ) → (S → ℕ) → (S → Shown) → S → Model
+told registers lanes left shows s = record { registers = registers s; lanes = lanes s; left = left s; bit = shows s .bit }
 
 -- what holds of every bench's meaning: its bounds, and that nothing is shown beside its registers and lanes
 pub record Lawful (m : Model) : Type 0 where

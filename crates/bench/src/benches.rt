@@ -1,7 +1,6 @@
 // What every bench answers and leaves.
 ghost use mathlib.Core.Path.{_≡_};
-ghost use Rattle.bench.specs.Model.{told, Lawful, Memory, lanesIn, showAnswer, setAnswer, gateAnswer, written, gated, writtenIn, gatedIn, after};
-ghost use mathlib.Core.Bool.{Bool};
+ghost use Rattle.bench.specs.Model.{Shown, told, Lawful, Memory, lanesIn, showAnswer, setAnswer, gateAnswer, written, gated, writtenIn, gatedIn, after};
 ghost use Prim.Native.Nat.{ℕ};
 use crate::faults::Fault;
 use crate::kinds::Kind;
@@ -13,7 +12,8 @@ pub trait Bench {
 
     ghost left: { Self → ℕ };
 
-    ghost bit: { Self → ℕ → ℕ → Bool };
+    // The bit of each register in each lane.
+    ghost shows: { Self → Shown };
 
     // The bottom benches beneath, each with its memory.
     ghost beneath: { Self → Memory };

@@ -124,7 +124,7 @@ pub impl<'a> Bench for RowBench<'a> as RowBenchBench {
 
     ghost left = { λ s. min (s .left) 1000000000 };
 
-    ghost bit = { λ s. rowBit (now (s .bytes)) (fit (s .width)) };
+    ghost shows = { λ s. record { bit = rowBit (now (s .bytes)) (fit (s .width)) } };
 
     ghost beneath = { λ s. part (name (s .bytes)) (s .width ∷ rest (now (s .bytes)) (s .width)) (rowModel (now (s .bytes)) (s .width) (s .left)) };
 

@@ -31,7 +31,7 @@ pub impl<F: Bench, S: Bench> Bench for SideBySide<F, S> as SideBySideBench {
 
     ghost left = { λ s. min (F·Bench .left (s .first)) (S·Bench .left (s .second)) };
 
-    ghost bit = { λ s. sideBit (told (F·Bench .registers) (F·Bench .lanes) (F·Bench .left) (F·Bench .shows) (s .first)) (told (S·Bench .registers) (S·Bench .lanes) (S·Bench .left) (S·Bench .shows) (s .second)) };
+    ghost shows = { λ s. record { bit = sideBit (told (F·Bench .registers) (F·Bench .lanes) (F·Bench .left) (F·Bench .shows) (s .first)) (told (S·Bench .registers) (S·Bench .lanes) (S·Bench .left) (S·Bench .shows) (s .second)) } };
 
     ghost beneath = { λ s. both (F·Bench .beneath (s .first)) (S·Bench .beneath (s .second)) };
 

@@ -87,7 +87,7 @@ pub impl<'a> Bench for WordBench<'a> as WordBenchBench {
 
     ghost left = { λ s. min (s .left) 1000000000 };
 
-    ghost bit = { λ s. wordBit (now (s .words)) };
+    ghost shows = { λ s. record { bit = wordBit (now (s .words)) } };
 
     ghost beneath = { λ s. part (name (s .words)) (beyond (now (s .words))) (wordModel (now (s .words)) (s .left)) };
 

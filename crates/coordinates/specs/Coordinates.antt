@@ -1,6 +1,6 @@
 -- The coordinates in which bytes stay through the rounds. Assumes nothing.
 --
--- The field of 256 elements is built from the one of two by three steps of degree two, as in D. Canright's tower:
+-- The field of 256 elements is built from the one of two by three steps of degree two, as in "A More Compact AES, and More" by D. A. Osvik and D. Canright:
 -- over 1b and fa, then 01 and 5c, then bd and bc. A byte's coordinates c0 to c7 are the eight bits for which
 -- the XOR of the chosen bytes 66 7d 4c c9 36 cc 11 98 is that byte.
 --
