@@ -17,7 +17,7 @@ use Rattle.std.specs.declared.result.Result.{Result}
 use Rattle.std.specs.declared.result.Result.the-variants.{Ok, Err}
 use Rattle.bench.specs.declared.faults.Fault.{Fault}
 use Rattle.bench.specs.Model.{Model, Memory, part, both, after, gated, gatedIn, gateAnswer}
-use Rattle.player.specs.declared.pages.Gate.{Gate}
+use Rattle.bench.specs.declared.gates.Gate.{Gate}
 use Rattle.player.specs.Pages.{whole, ReadAs, everyBelow, pair, gatesIn, socketsIn, scratchIn, kindsIn, placesIn, sizesFit, kindsNamed, numbersBelow, gateAt, gatesOf}
 use Rattle.player.specs.Plays.{registerOf, placed, basesAt, askBases, askGates, playAnswer, ran, played, ranIn, playedIn}
 use Rattle.player.proofs.Below.{every-at}

@@ -12,7 +12,7 @@ use Rattle.std.proofs.shelf.Lists.{getD-set-same, getD-set-other}
 use Rattle.std.specs.shelf.Lists.{All}
 use Rattle.bench.specs.Kinds.{result}
 use Rattle.bench.specs.Model.{Model, gated}
-use Rattle.player.specs.declared.pages.Gate.{Gate}
+use Rattle.bench.specs.declared.gates.Gate.{Gate}
 use Rattle.player.specs.Plays.{ran}
 use Rattle.player.specs.Rows.{rowStep, rowRan}
 use Rattle.player.proofs.Played.{done}

@@ -8,7 +8,7 @@ use lib.ListN.{length, getD, take, drop}
 use Rattle.std.specs.Iters.{counting}
 use Rattle.bench.specs.declared.kinds.Kind.{Kind}
 use Rattle.bench.specs.declared.kinds.Kind.the-variants.{Xor, And, Or, Xnor, Nand, Nor}
-use Rattle.player.specs.declared.pages.Gate.{Gate}
+use Rattle.bench.specs.declared.gates.Gate.{Gate}
 
 -- the kind of a number up to 5; a page that is whole has no other
 abbrev pub kindAt : ℕ → Kind

@@ -12,8 +12,9 @@ use Rattle.bench.specs.declared.faults.Question.the-variants.{Whole, Bases, Gat
 use Rattle.bench.specs.declared.faults.Part.the-variants.{Player, Reader}
 use Rattle.bench.specs.declared.faults.Fault.{Fault}
 use Rattle.bench.specs.Faults.{fault}
-use Rattle.bench.specs.Model.{Model, Memory, gated, gatedIn}
-use Rattle.player.specs.declared.pages.Gate.{Gate}
+use Rattle.bench.specs.Model.{Model, Memory}
+pub use Rattle.bench.specs.Gates.{ran, ranIn}
+use Rattle.bench.specs.declared.gates.Gate.{Gate}
 use Rattle.player.specs.Pages.{whole, gatesIn, socketsIn, scratchIn, gatesOf}
 
 -- the register that a number of a page stands for
@@ -58,18 +59,9 @@ playAnswer m bytes bases =
       (askBases (basesAt (m .registers) (socketsIn bytes) (scratchIn bytes) bases) (askGates (gatesIn bytes) (m .left)))
       (Err (fault Whole Reader 0))
 
--- gates done in order
-abbrev pub ran : List Gate → Model → Model
-ran [] m = m
-ran (g ∷ gs) m = ran gs (gated (g .kind) (g .target) (g .first) (g .second) m)
-
 unfoldable pub played : List ℕ → List ℕ → Model → Model
 played bytes bases m = ran (map (placed (socketsIn bytes) bases) (gatesOf bytes)) m
 
 -- the same on the bottom benches beneath
-abbrev pub ranIn : List Gate → Memory → Memory
-ranIn [] x = x
-ranIn (g ∷ gs) x = ranIn gs (gatedIn (g .kind) (g .target) (g .first) (g .second) x)
-
 unfoldable pub playedIn : List ℕ → List ℕ → Memory → Memory
 playedIn bytes bases x = ranIn (map (placed (socketsIn bytes) bases) (gatesOf bytes)) x

@@ -4,7 +4,7 @@ use mathlib.Core.Bool.{Bool, false}
 use mathlib.Core.List.{List, [], _∷_}
 use lib.ListN.{getD, set}
 use Rattle.bench.specs.Kinds.{result}
-use Rattle.player.specs.declared.pages.Gate.{Gate}
+use Rattle.bench.specs.declared.gates.Gate.{Gate}
 
 abbrev pub rowStep : Gate → List Bool → List Bool
 rowStep g xs = set xs (g .target) (result (g .kind) (getD xs (g .first) false) (getD xs (g .second) false))

@@ -11,16 +11,8 @@ ghost use Rattle.player.specs.Pages.{kindAt, pair, sizesFit, kindsNamed, numbe
 use bench::faults::Fault;
 use bench::faults::Part;
 use bench::faults::Question;
+use bench::gates::Gate;
 use bench::kinds::Kind;
-
-// One gate of a page, by the page's own numbers or by registers.
-#[derive(Clone, Copy)]
-pub struct Gate {
-    pub kind: Kind,
-    pub target: u16,
-    pub first: u16,
-    pub second: u16,
-}
 
 #[derive(Clone, Copy)]
 pub struct Page<'a> {

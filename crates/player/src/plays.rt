@@ -4,12 +4,12 @@ ghost use Prim.Native.Nat.{ℕ, _+_, _*_, _<_, _≤_};
 ghost use lib.ListN.{length};
 ghost use Rattle.bench.specs.Model.{told, after};
 ghost use Rattle.player.specs.Plays.{registerOf, placed, basesAt, playAnswer, played, playedIn};
-use crate::pages::Gate;
 use crate::pages::Page;
 use bench::benches::Bench;
 use bench::faults::Fault;
 use bench::faults::Part;
 use bench::faults::Question;
+use bench::gates::Gate;
 
 fn register_of(sockets: u16, bases: &[u16], number: u16) -> u16
     requires { ⌜ sockets ≤ 16 ⌝ ∗ ⌜ length (now bases) ≡ sockets + 1 ⌝ ∗ ⌜ registerOf sockets (now bases) number < 65536 ⌝ }

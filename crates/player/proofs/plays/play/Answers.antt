@@ -6,7 +6,7 @@ use lib.ListN.{length}
 use Rattle.std.specs.declared.option.Option.the-variants.{None}
 use Rattle.std.specs.declared.result.Result.the-variants.{Ok}
 use Rattle.bench.specs.Model.{Model, told, gated, gateAnswer}
-use Rattle.player.specs.declared.pages.Gate.{Gate}
+use Rattle.bench.specs.declared.gates.Gate.{Gate}
 use Rattle.player.specs.Pages.{whole, ReadAs, gateAt}
 use Rattle.player.specs.Plays.{placed, basesAt, ran, ranIn, registerOf}
 use Rattle.bench.proofs.Accepts.{gate-accepted}
