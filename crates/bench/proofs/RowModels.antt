@@ -53,28 +53,28 @@ module _ (w : ℕ) where
         let at : ℕ = m * w + t / 8 in
         let new : ℕ = putByte (getD bytes at 0) (t % 8) v in
         let other : (l * w + r / 8 ≡ at → ⊥) → spot (set bytes at new) (l * w) r ≡ spot bytes (l * w) r =
-          λ ne. ap (λ x. testBit x (r % 8)) (getD-set-other bytes at (l * w + r / 8) new 0 ne) in
+        λ ne. ap (λ x. testBit x (r % 8)) (getD-set-other bytes at (l * w + r / 8) new 0 ne) in
         elim (cases-bool (eqb l m)) [
-          inr e ↦ other (apart-rows l m (r / 8) (t / 8) hr ht (eqb-false l m e)) ∙ elim (cases-bool (eqb r t)) [ inl d ↦ simp (d, e) | inr d ↦ simp (d, e) ]
-        | inl e ↦
-            let lm : l * w ≡ m * w = ap (λ n. n * w) (eqb-true l m e) in
-            elim (cases-eq (r / 8) (t / 8)) [
-              inr ne ↦
-                let d : eqb r t ≡ false = ne-eqb r t (λ z. ne (ap (λ n. n / 8) z)) in
-                other (λ z. ne (omega arith)) ∙ simp (d, e)
-            | inl same ↦
-                let here : l * w + r / 8 ≡ at = omega arith in
-                let now : spot (set bytes at new) (l * w) r ≡ cond (eqb (r % 8) (t % 8)) v (testBit (getD bytes at 0) (r % 8)) =
-                  ap (λ n. testBit (getD (set bytes at new) n 0) (r % 8)) here
-                  ∙ ap (λ x. testBit x (r % 8)) (getD-set-same bytes at new 0 within)
-                  ∙ test-put-byte (getD bytes at 0) (t % 8) v (r % 8) (omega arith) (omega arith) in
-                elim (cases-bool (eqb r t)) [
-                  inl d ↦ let d′ : eqb (r % 8) (t % 8) ≡ true = eq-eqb (r % 8) (t % 8) (ap (λ n. n % 8) (eqb-true r t d)) in now ∙ simp (d, e, d′)
-                | inr d ↦
-                    let d′ : eqb (r % 8) (t % 8) ≡ false = ne-eqb (r % 8) (t % 8) (λ z. eqb-false r t d (omega arith)) in
-                    now ∙ simp (d, e, d′) (ap (λ n. testBit (getD bytes n 0) (r % 8)) (sym here))
-                ]
-            ]
+          | inr e ↦ other (apart-rows l m (r / 8) (t / 8) hr ht (eqb-false l m e)) ∙ elim (cases-bool (eqb r t)) [ inl d ↦ simp (d, e) | inr d ↦ simp (d, e) ]
+          | inl e ↦
+              let lm : l * w ≡ m * w = ap (λ n. n * w) (eqb-true l m e) in
+              elim (cases-eq (r / 8) (t / 8)) [
+                | inr ne ↦
+                    let d : eqb r t ≡ false = ne-eqb r t (λ z. ne (ap (λ n. n / 8) z)) in
+                    other (λ z. ne (omega arith)) ∙ simp (d, e)
+                | inl same ↦
+                    let here : l * w + r / 8 ≡ at = omega arith in
+                    let now : spot (set bytes at new) (l * w) r ≡ cond (eqb (r % 8) (t % 8)) v (testBit (getD bytes at 0) (r % 8)) =
+                    ap (λ n. testBit (getD (set bytes at new) n 0) (r % 8)) here
+                    ∙ ap (λ x. testBit x (r % 8)) (getD-set-same bytes at new 0 within)
+                    ∙ test-put-byte (getD bytes at 0) (t % 8) v (r % 8) (omega arith) (omega arith) in
+                    elim (cases-bool (eqb r t)) [
+                      | inl d ↦ let d′ : eqb (r % 8) (t % 8) ≡ true = eq-eqb (r % 8) (t % 8) (ap (λ n. n % 8) (eqb-true r t d)) in now ∙ simp (d, e, d′)
+                      | inr d ↦
+                          let d′ : eqb (r % 8) (t % 8) ≡ false = ne-eqb (r % 8) (t % 8) (λ z. eqb-false r t d (omega arith)) in
+                          now ∙ simp (d, e, d′) (ap (λ n. testBit (getD bytes n 0) (r % 8)) (sym here))
+                    ]
+              ]
         ]
 
   module _ (k : Kind) (t a b : ℕ) (bytes : List ℕ) where
@@ -98,20 +98,20 @@ module _ (w : ℕ) where
             let before : n * w ≤ length bytes = omega (arith, suc-mul n w) in
             let z : ltb n n ≡ false = le-ltb n n (omega arith) in
             let same : (x : ℕ) → x / 8 < w → spot done (n * w) x ≡ spot bytes (n * w) x =
-              λ x hx. done-spot n before x n hx ∙ elim (cases-bool (eqb x t)) [ inl d ↦ simp (d, z) | inr d ↦ simp d ] in
+            λ x hx. done-spot n before x n hx ∙ elim (cases-bool (eqb x t)) [ inl d ↦ simp (d, z) | inr d ↦ simp d ] in
             let v : Bool = result k (spot done (n * w) a) (spot done (n * w) b) in
             let step : spot (rowPut done (n * w) t v) (l * w) r ≡ cond (eqb r t && eqb l n) v (spot done (l * w) r) =
-              spot-put done n t v ht (omega (arith, suc-mul n w, done-length n)) r l hr in
+            spot-put done n t v ht (omega (arith, suc-mul n w, done-length n)) r l hr in
             let ih = done-spot n before r l hr in
             step ∙ elim (cases-bool (eqb r t)) [
-              inr d ↦ rw (d) (ih ∙ simp d)
-            | inl d ↦ elim (cases-bool (eqb l n)) [
-                inl e ↦
-                  let i : ltb l (suc n) ≡ true = lt-ltb l (suc n) (omega (arith, eqb-true l n e)) in
-                  simp (d, e, i) (ap₂ (result k) (same a ha) (same b hb) ∙ ap (λ j. result k (spot bytes (j * w) a) (spot bytes (j * w) b)) (sym (eqb-true l n e)))
-              | inr e ↦ elim (cases-bool (ltb l n)) [
-                  inl p ↦ let i : ltb l (suc n) ≡ true = lt-ltb l (suc n) (omega (arith, ltb-true l n p)) in simp (d, e, i) (ih ∙ simp (d, p))
-                | inr p ↦ let i : ltb l (suc n) ≡ false = le-ltb l (suc n) (omega (arith, ltb-false l n p, eqb-false l n e)) in simp (d, e, i) (ih ∙ simp (d, p))
+              | inr d ↦ rw (d) (ih ∙ simp d)
+              | inl d ↦ elim (cases-bool (eqb l n)) [
+                | inl e ↦
+                    let i : ltb l (suc n) ≡ true = lt-ltb l (suc n) (omega (arith, eqb-true l n e)) in
+                    simp (d, e, i) (ap₂ (result k) (same a ha) (same b hb) ∙ ap (λ j. result k (spot bytes (j * w) a) (spot bytes (j * w) b)) (sym (eqb-true l n e)))
+                | inr e ↦ elim (cases-bool (ltb l n)) [
+                  | inl p ↦ let i : ltb l (suc n) ≡ true = lt-ltb l (suc n) (omega (arith, ltb-true l n p)) in simp (d, e, i) (ih ∙ simp (d, p))
+                  | inr p ↦ let i : ltb l (suc n) ≡ false = le-ltb l (suc n) (omega (arith, ltb-false l n p, eqb-false l n e)) in simp (d, e, i) (ih ∙ simp (d, p))
                 ]
               ]
             ]
@@ -134,18 +134,18 @@ module _ (bytes : List ℕ) (width left : ℕ) where
         let ia : ltb a (8 * w) ≡ true = lt-ltb a (8 * w) ha in
         let ib : ltb b (8 * w) ≡ true = lt-ltb b (8 * w) hb in
         same-model refl (ap (λ n. rowLanes n w) (done-length w k t a b bytes lanes)) (omega arith) (λ r l.
-          ap (λ n. rowCell w (rowLanes n w) done r l) (done-length w k t a b bytes lanes)
-          ∙ elim (cases-bool (ltb r (8 * w))) [
-              inr i ↦
-                let d : eqb r t ≡ false = ne-eqb r t (λ z. omega (arith, ltb-false r (8 * w) i)) in
-                simp (i, d)
-            | inl i ↦
-                let at = done-spot w k t a b bytes (in-row t w ht) (in-row a w ha) (in-row b w hb) lanes (rows-fit (length bytes) w) r l (in-row r w (ltb-true r (8 * w) i)) in
-                elim (cases-bool (ltb l lanes)) [
-                  inl p ↦ elim (cases-bool (eqb r t)) [ inl d ↦ simp (i, ia, ib, p, d) (at ∙ simp (p, d)) | inr d ↦ simp (i, ia, ib, p, d) (at ∙ simp (p, d)) ]
+        ap (λ n. rowCell w (rowLanes n w) done r l) (done-length w k t a b bytes lanes)
+        ∙ elim (cases-bool (ltb r (8 * w))) [
+          | inr i ↦
+              let d : eqb r t ≡ false = ne-eqb r t (λ z. omega (arith, ltb-false r (8 * w) i)) in
+              simp (i, d)
+          | inl i ↦
+              let at = done-spot w k t a b bytes (in-row t w ht) (in-row a w ha) (in-row b w hb) lanes (rows-fit (length bytes) w) r l (in-row r w (ltb-true r (8 * w) i)) in
+              elim (cases-bool (ltb l lanes)) [
+                | inl p ↦ elim (cases-bool (eqb r t)) [ inl d ↦ simp (i, ia, ib, p, d) (at ∙ simp (p, d)) | inr d ↦ simp (i, ia, ib, p, d) (at ∙ simp (p, d)) ]
                 | inr p ↦ elim (cases-bool (eqb r t)) [ inl d ↦ simp (i, p, d) | inr d ↦ simp (i, p, d) ]
-                ]
-            ])
+              ]
+        ])
 
     pub row-rest : rest done width ≡ rest bytes width
     unfolding rest
@@ -164,20 +164,20 @@ module _ (bytes : List ℕ) (width left : ℕ) where
     unfolding written
     row-written =
         same-model refl (ap (λ n. rowLanes n w) put-length) refl (λ r l.
-          ap (λ n. rowCell w (rowLanes n w) put r l) put-length
-          ∙ elim (cases-bool (ltb r (8 * w))) [
-              inr i ↦
-                let d : eqb r t ≡ false = ne-eqb r t (λ z. omega (arith, ltb-false r (8 * w) i)) in
-                simp (i, d)
-            | inl i ↦
-                let at = spot-put w bytes m t v (in-row t w ht) (in-bytes (length bytes) w m (t / 8) hm (in-row t w ht)) r l (in-row r w (ltb-true r (8 * w) i)) in
-                elim (cases-bool (ltb l lanes)) [
-                  inl p ↦ simp (i, p) at
+        ap (λ n. rowCell w (rowLanes n w) put r l) put-length
+        ∙ elim (cases-bool (ltb r (8 * w))) [
+          | inr i ↦
+              let d : eqb r t ≡ false = ne-eqb r t (λ z. omega (arith, ltb-false r (8 * w) i)) in
+              simp (i, d)
+          | inl i ↦
+              let at = spot-put w bytes m t v (in-row t w ht) (in-bytes (length bytes) w m (t / 8) hm (in-row t w ht)) r l (in-row r w (ltb-true r (8 * w) i)) in
+              elim (cases-bool (ltb l lanes)) [
+                | inl p ↦ simp (i, p) at
                 | inr p ↦
                     let e : eqb l m ≡ false = ne-eqb l m (λ z. omega (arith, ltb-false l lanes p)) in
                     elim (cases-bool (eqb r t)) [ inl d ↦ simp (i, p, d, e) | inr d ↦ simp (i, p, d, e) ]
-                ]
-            ])
+              ]
+        ])
 
     pub put-rest : rest put width ≡ rest bytes width
     unfolding rest

@@ -32,58 +32,58 @@ module _ (m n : Model) where
       let ia : ltb a count ≡ true = lt-ltb a count ha in
       let ib : ltb b count ≡ true = lt-ltb b count hb in
       same-model refl refl (omega arith) (λ r l.
-        elim (cases-bool (eqb r t)) [
-          inl e ↦
+      elim (cases-bool (eqb r t)) [
+        | inl e ↦
             let i : ltb r count ≡ true = lt-ltb r count (omega (arith, eqb-true r t e)) in
             elim (cases-bool (ltb l width)) [
-              inl p ↦ elim (cases-bool (ltb l (m .lanes))) [
-                inl q ↦ simp (e, i, ia, ib, p, q)
-              | inr q ↦
-                  let s : ltb (l - m .lanes) (n .lanes) ≡ true = lt-ltb (l - m .lanes) (n .lanes) (omega (arith, ltb-true l width p, ltb-false l (m .lanes) q)) in
-                  simp (e, i, ia, ib, p, q, s)
+              | inl p ↦ elim (cases-bool (ltb l (m .lanes))) [
+                | inl q ↦ simp (e, i, ia, ib, p, q)
+                | inr q ↦
+                    let s : ltb (l - m .lanes) (n .lanes) ≡ true = lt-ltb (l - m .lanes) (n .lanes) (omega (arith, ltb-true l width p, ltb-false l (m .lanes) q)) in
+                    simp (e, i, ia, ib, p, q, s)
               ]
-            | inr p ↦ simp (e, i, p)
+              | inr p ↦ simp (e, i, p)
             ]
         | inr e ↦ simp e
-        ])
+      ])
 
   module _ (r l : ℕ) (v : Bool) (within : r < count) (h : l < width) where
     pub side-written-first : l < m .lanes → sideModel (written r l v m) n ≡ written r l v (sideModel m n)
     unfolding written
     side-written-first f = same-model refl refl refl (λ i j.
         elim (cases-bool (eqb i r)) [
-          inl d ↦
-            let c : ltb i count ≡ true = lt-ltb i count (omega (arith, eqb-true i r d)) in
-            elim (cases-bool (eqb j l)) [
-              inl e ↦
-                let p : ltb j width ≡ true = lt-ltb j width (omega (arith, eqb-true j l e)) in
-                let q : ltb j (m .lanes) ≡ true = lt-ltb j (m .lanes) (omega (arith, eqb-true j l e)) in
-                simp (c, d, e, p, q)
-            | inr e ↦ simp (c, d, e)
-            ]
-        | inr d ↦ simp d
+          | inl d ↦
+              let c : ltb i count ≡ true = lt-ltb i count (omega (arith, eqb-true i r d)) in
+              elim (cases-bool (eqb j l)) [
+                | inl e ↦
+                    let p : ltb j width ≡ true = lt-ltb j width (omega (arith, eqb-true j l e)) in
+                    let q : ltb j (m .lanes) ≡ true = lt-ltb j (m .lanes) (omega (arith, eqb-true j l e)) in
+                    simp (c, d, e, p, q)
+                | inr e ↦ simp (c, d, e)
+              ]
+          | inr d ↦ simp d
         ])
 
     pub side-written-second : m .lanes ≤ l → sideModel m (written r (l - m .lanes) v n) ≡ written r l v (sideModel m n)
     unfolding written
     side-written-second f = same-model refl refl refl (λ i j.
         elim (cases-bool (eqb i r)) [
-          inl d ↦
-            let c : ltb i count ≡ true = lt-ltb i count (omega (arith, eqb-true i r d)) in
-            elim (cases-bool (eqb j l)) [
-              inl e ↦
-                let p : ltb j width ≡ true = lt-ltb j width (omega (arith, eqb-true j l e)) in
-                let q : ltb j (m .lanes) ≡ false = le-ltb j (m .lanes) (omega (arith, eqb-true j l e)) in
-                let s : eqb (j - m .lanes) (l - m .lanes) ≡ true = eq-eqb (j - m .lanes) (l - m .lanes) (omega (arith, eqb-true j l e)) in
-                simp (c, d, e, p, q, s)
-            | inr e ↦ elim (cases-bool (ltb j (m .lanes))) [
-                inl q ↦ simp (c, d, e, q)
-              | inr q ↦
-                  let s : eqb (j - m .lanes) (l - m .lanes) ≡ false = ne-eqb (j - m .lanes) (l - m .lanes) (λ z. eqb-false j l e (omega (arith, ltb-false j (m .lanes) q))) in
-                  simp (c, d, e, q, s)
+          | inl d ↦
+              let c : ltb i count ≡ true = lt-ltb i count (omega (arith, eqb-true i r d)) in
+              elim (cases-bool (eqb j l)) [
+                | inl e ↦
+                    let p : ltb j width ≡ true = lt-ltb j width (omega (arith, eqb-true j l e)) in
+                    let q : ltb j (m .lanes) ≡ false = le-ltb j (m .lanes) (omega (arith, eqb-true j l e)) in
+                    let s : eqb (j - m .lanes) (l - m .lanes) ≡ true = eq-eqb (j - m .lanes) (l - m .lanes) (omega (arith, eqb-true j l e)) in
+                    simp (c, d, e, p, q, s)
+                | inr e ↦ elim (cases-bool (ltb j (m .lanes))) [
+                  | inl q ↦ simp (c, d, e, q)
+                  | inr q ↦
+                      let s : eqb (j - m .lanes) (l - m .lanes) ≡ false = ne-eqb (j - m .lanes) (l - m .lanes) (λ z. eqb-false j l e (omega (arith, ltb-false j (m .lanes) q))) in
+                      simp (c, d, e, q, s)
+                ]
               ]
-            ]
-        | inr d ↦ simp d
+          | inr d ↦ simp d
         ])
 
 -- equal memories are equal part by part

@@ -31,12 +31,12 @@ module _ (n : ℕ) (words : List ℕ) (t v : ℕ) (h : t < length words) (within
       → (r l : ℕ) → cell n (set words t v) r l ≡ cond (eqb r t && ltb l 64) (new l) (cell n words r l)
   put-bits new f r l =
       elim (cases-bool (eqb r t)) [
-        inl e ↦ let i : ltb r n ≡ true = lt-ltb r n (omega (arith, eqb-true r t e)) in
-          elim (cases-bool (ltb l 64)) [
-            inl p ↦ rw (e, i, p) (ap (λ k. testBit (getD (set words t v) k 0) l) (eqb-true r t e) ∙ ap (λ w. testBit w l) (getD-set-same words t v 0 h) ∙ f l p)
-          | inr p ↦ rw (e, i, p)
-          ]
-      | inr e ↦ rw e (ap (λ w. cond (ltb r n && ltb l 64) (testBit w l) false) (getD-set-other words t r v 0 (eqb-false r t e)))
+        | inl e ↦ let i : ltb r n ≡ true = lt-ltb r n (omega (arith, eqb-true r t e)) in
+            elim (cases-bool (ltb l 64)) [
+              | inl p ↦ rw (e, i, p) (ap (λ k. testBit (getD (set words t v) k 0) l) (eqb-true r t e) ∙ ap (λ w. testBit w l) (getD-set-same words t v 0 h) ∙ f l p)
+              | inr p ↦ rw (e, i, p)
+            ]
+        | inr e ↦ rw e (ap (λ w. cond (ltb r n && ltb l 64) (testBit w l) false) (getD-set-other words t r v 0 (eqb-false r t e)))
       ]
 
 -- the count of the words, and so their bits, by a count that stays
@@ -53,25 +53,25 @@ word-gated k words left t a b ht ha hb p q =
     let i : ltb a n ≡ true = lt-ltb a n ha in
     let j : ltb b n ≡ true = lt-ltb b n hb in
     same-model
-      (ap (λ n. min n 65535) (length-set words t (combined k x y)))
-      refl
-      (omega arith)
-      (λ r l. recount words t (combined k x y) r l
-        ∙ put-bits n words t (combined k x y) (omega arith) ht
-            (λ l. result k (wordBit words a l) (wordBit words b l))
-            (λ l e. test-combined k x y l p q (ltb-true l 64 e) ∙ rw (i, j, e)) r l)
+    (ap (λ n. min n 65535) (length-set words t (combined k x y)))
+    refl
+    (omega arith)
+    (λ r l. recount words t (combined k x y) r l
+    ∙ put-bits n words t (combined k x y) (omega arith) ht
+    (λ l. result k (wordBit words a l) (wordBit words b l))
+    (λ l e. test-combined k x y l p q (ltb-true l 64 e) ∙ rw (i, j, e)) r l)
 
 -- a bit put in one lane of one register
 one-lane : (f : ℕ → ℕ → Bool) (r l : ℕ) (v : Bool) (i j : ℕ) → l < 64
     → cond (eqb i r && ltb j 64) (cond (eqb j l) v (f r j)) (f i j) ≡ cond (eqb i r && eqb j l) v (f i j)
 one-lane f r l v i j h =
     elim (cases-bool (eqb i r)) [
-      inl e ↦ elim (cases-bool (eqb j l)) [
-        inl p ↦ let q : ltb j 64 ≡ true = lt-ltb j 64 (omega (arith, eqb-true j l p)) in rw (e, p, q)
-      | inr p ↦ let s : f r j ≡ f i j = ap (λ k. f k j) (sym (eqb-true i r e)) in
-          elim (cases-bool (ltb j 64)) [ inl q ↦ rw (e, p, q) s | inr q ↦ rw (e, p, q) ]
+      | inl e ↦ elim (cases-bool (eqb j l)) [
+        | inl p ↦ let q : ltb j 64 ≡ true = lt-ltb j 64 (omega (arith, eqb-true j l p)) in rw (e, p, q)
+        | inr p ↦ let s : f r j ≡ f i j = ap (λ k. f k j) (sym (eqb-true i r e)) in
+            elim (cases-bool (ltb j 64)) [ inl q ↦ rw (e, p, q) s | inr q ↦ rw (e, p, q) ]
       ]
-    | inr e ↦ rw e
+      | inr e ↦ rw e
     ]
 
 pub word-written : (words : List ℕ) (left r l : ℕ) (v : Bool) → r < wordCount words → l < 64
@@ -82,14 +82,14 @@ word-written words left r l v h p =
     let n : ℕ = wordCount words in
     let i : ltb r n ≡ true = lt-ltb r n h in
     same-model
-      (ap (λ n. min n 65535) (length-set words r (putBit w l v)))
-      refl
-      refl
-      (λ k j. recount words r (putBit w l v) k j
-        ∙ put-bits n words r (putBit w l v) (omega arith) h
-            (λ j. cond (eqb j l) v (wordBit words r j))
-            (λ j e. test-put w l v j p (ltb-true j 64 e) ∙ rw (i, e)) k j
-        ∙ one-lane (wordBit words) r l v k j p)
+    (ap (λ n. min n 65535) (length-set words r (putBit w l v)))
+    refl
+    refl
+    (λ k j. recount words r (putBit w l v) k j
+    ∙ put-bits n words r (putBit w l v) (omega arith) h
+    (λ j. cond (eqb j l) v (wordBit words r j))
+    (λ j e. test-put w l v j p (ltb-true j 64 e) ∙ rw (i, e)) k j
+    ∙ one-lane (wordBit words) r l v k j p)
 
 pub beyond-set : (words : List ℕ) (t v : ℕ) → t < 65535 → beyond (set words t v) ≡ beyond words
 unfolding beyond
@@ -100,6 +100,6 @@ pub same-shown : {m n : Model} → Lawful m → Lawful n → m .registers ≡ n 
     → ((r l : ℕ) → r < m .registers → l < m .lanes → m .bit r l ≡ n .bit r l) → m ≡ n
 same-shown {m} {n} p q a b c h = same-model a b c (λ r l.
     elim (cases-bool (ltb r (m .registers) && ltb l (m .lanes))) [
-      inl e ↦ let both = and-parts (ltb r (m .registers)) (ltb l (m .lanes)) e in h r l (ltb-true r (m .registers) (both .0)) (ltb-true l (m .lanes) (both .1))
-    | inr e ↦ p .blank r l e ∙ sym (q .blank r l (ap₂ (λ x y. ltb r x && ltb l y) (sym a) (sym b) ∙ e))
+      | inl e ↦ let both = and-parts (ltb r (m .registers)) (ltb l (m .lanes)) e in h r l (ltb-true r (m .registers) (both .0)) (ltb-true l (m .lanes) (both .1))
+      | inr e ↦ p .blank r l e ∙ sym (q .blank r l (ap₂ (λ x y. ltb r x && ltb l y) (sym a) (sym b) ∙ e))
     ])

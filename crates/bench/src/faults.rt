@@ -1,18 +1,28 @@
-// The questions in their order, and what a no reports.
+// The numbered questions, and what a no reports: the question, the part that asked, and the place of the fault.
 ghost use mathlib.Core.Path.{_≡_};
 ghost use Rattle.bench.specs.Faults.{numberOf, fault};
 
 #[derive(Clone, Copy)]
 pub enum Question {
+    // at least 2,048 registers, and 1 to 128 lanes
     Size,
+    // the page is whole
     Whole,
+    // one base for each socket and one for the scratch, all within the registers
     Bases,
+    // the register is below the number of registers
     Register,
+    // the lane is below the number of lanes
     Lane,
+    // the caller's bytes are exactly sixteen
     Sixteen,
+    // the lane holds a block
     Block,
+    // there is a placed key to schedule, or a block to seal or open
     Work,
+    // every lane that holds a block has a scheduled key
     Scheduled,
+    // enough gates are left
     Gates,
 }
 
@@ -32,6 +42,7 @@ pub struct Fault {
 }
 
 impl Fault {
+    // A register that the bench does not have.
     pub fn register(register: u16) -> Fault
         ensures { λ r. ⌜ r ≡ fault Question.Register Part.Bench register ⌝ }
     {
@@ -42,6 +53,7 @@ impl Fault {
         }
     }
 
+    // A lane that the bench does not have.
     pub fn lane(lane: u16) -> Fault
         ensures { λ r. ⌜ r ≡ fault Question.Lane Part.Bench lane ⌝ }
     {
@@ -52,6 +64,7 @@ impl Fault {
         }
     }
 
+    // So many gates too few.
     pub fn gates(part: Part, missing: u32) -> Fault
         ensures { λ r. ⌜ r ≡ fault Question.Gates part missing ⌝ }
     {
@@ -62,6 +75,7 @@ impl Fault {
         }
     }
 
+    // The number of the question.
     pub fn number(&self) -> u8
         ensures { λ r. ⌜ r ≡ numberOf (now (self .entry) .question) ⌝ }
     {

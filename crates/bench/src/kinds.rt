@@ -13,6 +13,7 @@ pub enum Kind {
 }
 
 impl Kind {
+    // The kind that a number from 0 to 5 names.
     pub fn from_byte(byte: u8) -> Option<Kind>
         ensures { λ r. ⌜ r ≡ kindOf byte ⌝ }
     {

@@ -1,9 +1,10 @@
-// The row bench, over the caller's bytes.
+// The row bench, over the caller's bytes: lane l is the row of `width` bytes from byte l·width on, and register r is
+// bit r mod 8, lowest first, of byte r / 8 of that row. Bytes beyond the last whole row of the first 64 are never touched.
 ghost use mathlib.Core.Path.{_≡_, refl};
 ghost use denote.Ref.{now, name};
 ghost use Prim.Native.Nat.{_+_, _*_, _/_, _<_, _≤_, _^_, min};
 ghost use lib.ListN.{length};
-ghost use mathlib.Core.List.{_∷_};
+ghost use mathlib.Core.List.{[], _∷_};
 ghost use Rattle.bench.specs.Model.{part};
 ghost use Rattle.bench.specs.Kinds.{result};
 ghost use Rattle.bench.specs.Word.{testBit};
@@ -15,6 +16,7 @@ use crate::kinds::Kind;
 use crate::word::MOST_GATES;
 
 pub const MOST_WIDTH: usize = 8_191;
+
 pub const MOST_ROWS: usize = 64;
 
 #[derive(Drop)]
@@ -25,6 +27,7 @@ pub struct RowBench<'a> {
 }
 
 impl<'a> RowBench<'a> {
+    // A width of 0, or above the most, gives a bench of no registers and no lanes.
     pub fn new(bytes: &'a mut [u8], width: usize, allotment: u32) -> RowBench<'a>
         ensures meaning { λ r. ⌜ rowModel (now (r .bytes)) (r .width) (r .left) ≡ rowModel (now (bytes .entry)) width allotment ⌝ }
         ensures same { λ r. ⌜ name (r .bytes) ≡ name (bytes .entry) ⌝ }
@@ -39,7 +42,9 @@ impl<'a> RowBench<'a> {
     }
 
     // A bench of no bytes, to stand in a bench's place while that is held elsewhere.
-    pub fn idle() -> RowBench<'a> {
+    pub fn idle() -> RowBench<'a>
+        ensures { λ r. ⌜ rowModel (now (r .bytes)) (r .width) (r .left) ≡ rowModel [] 0 0 ⌝ }
+    {
         RowBench {
             bytes: &mut [],
             width: 0,
@@ -47,17 +52,38 @@ impl<'a> RowBench<'a> {
         }
     }
 
+    // The caller's bytes again, as the bench leaves them.
+    pub fn finish(self) -> &'a mut [u8]
+        ensures value { λ r. ⌜ now r ≡ now (self .entry .bytes) ⌝ }
+        ensures same { λ r. ⌜ name r ≡ name (self .entry .bytes) ⌝ }
+    {
+        let RowBench {
+            bytes,
+            width: _,
+            left: _,
+        } = self;
+        bytes
+    }
+
     fn row(&self) -> usize
         ensures { λ r. ⌜ r ≡ fit (now (self .entry) .width) ⌝ }
     {
-        if self.width > MOST_WIDTH { 0 } else { self.width }
+        if self.width > MOST_WIDTH {
+            0
+        } else {
+            self.width
+        }
     }
 
     fn rows(&self) -> usize
         ensures { λ r. ⌜ r ≡ rowLanes (length (now (now (self .entry) .bytes))) (fit (now (self .entry) .width)) ⌝ }
     {
         let row = self.row();
-        if row == 0 { 0 } else { (self.bytes.len() / row).min(MOST_ROWS) }
+        if row == 0 {
+            0
+        } else {
+            (self.bytes.len() / row).min(MOST_ROWS)
+        }
     }
 }
 
@@ -78,7 +104,11 @@ fn put_byte(byte: u8, at: u16, bit: bool) -> u8
     requires { ⌜ at < 8 ⌝ }
     ensures { λ r. ⌜ r ≡ putByte byte at bit ⌝ }
 {
-    if bit { byte | (1u8 << at) } else { byte & !(1u8 << at) }
+    if bit {
+        byte | (1u8 << at)
+    } else {
+        byte & !(1u8 << at)
+    }
 }
 
 fn test_byte(byte: u8, at: u16) -> bool

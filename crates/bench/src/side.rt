@@ -1,4 +1,4 @@
-// Two benches side by side, held by value.
+// Two benches side by side, held by value: the first one's lanes come first, and each gate is done on both.
 ghost use mathlib.Core.Path.{_≡_, ap₂};
 ghost use Prim.Native.Nat.{min};
 ghost use Rattle.bench.specs.Model.{told, both};
@@ -12,16 +12,6 @@ use crate::kinds::Kind;
 pub struct SideBySide<F, S> {
     pub first: F,
     pub second: S,
-}
-
-impl<F, S> SideBySide<F, S> {
-    // The two benches again.
-    pub fn parts(self) -> (F, S)
-        ensures { λ r. ⌜ (r .0 ≡ self .first) × (r .1 ≡ self .second) ⌝ }
-    {
-        let SideBySide { first, second } = self;
-        (first, second)
-    }
 }
 
 pub impl<F: Bench, S: Bench> Bench for SideBySide<F, S> as SideBySideBench {

@@ -1,6 +1,8 @@
-// The word bench, over the caller's words.
+// The word bench, over the caller's words: word r is register r, and bit l of it, counted from the lowest, is lane l.
+// Words beyond the first 65,535 are never touched.
 ghost use mathlib.Core.Path.{_≡_, refl};
 ghost use denote.Ref.{now, name};
+ghost use mathlib.Core.List.{[]};
 ghost use Rattle.bench.specs.Model.{part};
 ghost use Prim.Native.Nat.{_<_, min};
 ghost use Rattle.bench.specs.Word.{wordModel, wordCount, wordBit, beyond, word-lawful, combined, putBit, testBit};
@@ -11,6 +13,7 @@ use crate::faults::Question;
 use crate::kinds::Kind;
 
 pub const MOST_REGISTERS: usize = 65_535;
+
 pub const MOST_GATES: u32 = 1_000_000_000;
 
 #[derive(Drop)]
@@ -20,6 +23,7 @@ pub struct WordBench<'a> {
 }
 
 impl<'a> WordBench<'a> {
+    // An allotment above the most gates counts as the most.
     pub fn new(words: &'a mut [u64], allotment: u32) -> WordBench<'a>
         ensures meaning { λ r. ⌜ wordModel (now (r .words)) (r .left) ≡ wordModel (now (words .entry)) allotment ⌝ }
         ensures same { λ r. ⌜ name (r .words) ≡ name (words .entry) ⌝ }
@@ -32,8 +36,13 @@ impl<'a> WordBench<'a> {
     }
 
     // A bench of no words, to stand in a bench's place while that is held elsewhere.
-    pub fn idle() -> WordBench<'a> {
-        WordBench { words: &mut [], left: 0 }
+    pub fn idle() -> WordBench<'a>
+        ensures { λ r. ⌜ wordModel (now (r .words)) (r .left) ≡ wordModel [] 0 ⌝ }
+    {
+        WordBench {
+            words: &mut [],
+            left: 0,
+        }
     }
 
     // The caller's words again, as the bench leaves them.
@@ -43,13 +52,6 @@ impl<'a> WordBench<'a> {
     {
         let WordBench { words, left: _ } = self;
         words
-    }
-
-    // Ends the bench: the caller's words stay as it leaves them.
-    pub fn end(self)
-        ensures { λ _. ⌜ now (self .exit .0) ≡ now (self .entry .words) ⌝ }
-    {
-        let WordBench { words: _, left: _ } = self;
     }
 }
 
@@ -70,7 +72,11 @@ fn put_bit(word: u64, lane: u16, bit: bool) -> u64
     requires { ⌜ lane < 64 ⌝ }
     ensures { λ r. ⌜ r ≡ putBit word lane bit ⌝ }
 {
-    if bit { word | (1u64 << lane) } else { word & !(1u64 << lane) }
+    if bit {
+        word | (1u64 << lane)
+    } else {
+        word & !(1u64 << lane)
+    }
 }
 
 fn test_bit(word: u64, lane: u16) -> bool

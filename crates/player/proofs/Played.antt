@@ -82,7 +82,7 @@ module _ (bytes : List ℕ) (q c : ℕ) (kinds places : List ℕ) (w : whole byt
   unfolding numbersBelow
   number-below j h =
       ltb-true (pair places (2 * j)) (8 * q + c)
-        (every-at (length places / 2) (λ j. ltb (pair places (2 * j)) (8 * q + c)) j numbers (omega (arith, places-count)))
+      (every-at (length places / 2) (λ j. ltb (pair places (2 * j)) (8 * q + c)) j numbers (omega (arith, places-count)))
 
   -- number k of gate i
   pub place-below : (i k n : ℕ) → i < length kinds → k < 3 → n ≡ 2 * (3 * i + k) → pair places n < 8 * q + c

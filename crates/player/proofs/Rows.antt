@@ -31,9 +31,9 @@ step-shows m l xs g h w s r below =
     let p : ltb l (m .lanes) ≡ true = lt-ltb l (m .lanes) h in
     let in-range : r < length xs = omega (arith, length-set xs (g .target) v) in
     elim (cases-bool (eqb r (g .target))) [
-      inl e ↦ rw (e, p) (ap₂ (result (g .kind)) (s (g .first) (w .1 .0)) (s (g .second) (w .1 .1))
-        ∙ sym (ap (λ k. getD (set xs (g .target) v) k false) (eqb-true r (g .target) e) ∙ getD-set-same xs (g .target) v false (w .0)))
-    | inr e ↦ rw e (s r in-range ∙ sym (getD-set-other xs (g .target) r v false (eqb-false r (g .target) e)))
+      | inl e ↦ rw (e, p) (ap₂ (result (g .kind)) (s (g .first) (w .1 .0)) (s (g .second) (w .1 .1))
+          ∙ sym (ap (λ k. getD (set xs (g .target) v) k false) (eqb-true r (g .target) e) ∙ getD-set-same xs (g .target) v false (w .0)))
+      | inr e ↦ rw e (s r in-range ∙ sym (getD-set-other xs (g .target) r v false (eqb-false r (g .target) e)))
     ]
 
 pub rows-show : (n : ℕ) (gs : List Gate) (m : Model) (l : ℕ) (xs : List Bool) → length xs ≡ n → l < m .lanes → All (Within n) gs → Shows m l xs → Shows (ran gs m) l (rowRan gs xs)
@@ -41,6 +41,6 @@ unfolding gated
 rows-show n [] m l xs e h w s = s
 rows-show n (g ∷ gs) m l xs e h w s =
     rows-show n gs (done g m) l (rowStep g xs)
-      (length-set xs (g .target) (result (g .kind) (getD xs (g .first) false) (getD xs (g .second) false)) ∙ e)
-      h (w .1)
-      (step-shows m l xs g h (omega (arith, w .0 .0), (omega (arith, w .0 .1 .0), omega (arith, w .0 .1 .1))) s)
+    (length-set xs (g .target) (result (g .kind) (getD xs (g .first) false) (getD xs (g .second) false)) ∙ e)
+    h (w .1)
+    (step-shows m l xs g h (omega (arith, w .0 .0), (omega (arith, w .0 .1 .0), omega (arith, w .0 .1 .1))) s)

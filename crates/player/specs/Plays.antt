@@ -56,8 +56,8 @@ askGates needed left = cond (ltb left needed) (Err (fault Gates Player (needed -
 abbrev pub playAnswer : Model → List ℕ → List ℕ → Result (Unit {0}) Fault
 playAnswer m bytes bases =
     cond (whole bytes)
-      (askBases (basesAt (m .registers) (socketsIn bytes) (scratchIn bytes) bases) (askGates (gatesIn bytes) (m .left)))
-      (Err (fault Whole Reader 0))
+    (askBases (basesAt (m .registers) (socketsIn bytes) (scratchIn bytes) bases) (askGates (gatesIn bytes) (m .left)))
+    (Err (fault Whole Reader 0))
 
 unfoldable pub played : List ℕ → List ℕ → Model → Model
 played bytes bases m = ran (map (placed (socketsIn bytes) bases) (gatesOf bytes)) m

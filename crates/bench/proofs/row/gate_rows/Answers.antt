@@ -11,10 +11,13 @@ use Rattle.bench.proofs.row.gate_rows.Needs as need
 pub gate-row-requires : need.gate-row-requires
 gate-row-requires c κs =
     let i = c .loop-lane .lane in
-    let w = c .args .row in
-    (omega (arith, digits-lt {q = i} {m = c .args .rows} {r = c .args .target / 8} {c = w} (omega arith) (omega arith)),
-      (omega (arith, digits-lt {q = i} {m = c .args .rows} {r = c .args .a / 8} {c = w} (omega arith) (omega arith)),
-        omega (arith, digits-lt {q = i} {m = c .args .rows} {r = c .args .b / 8} {c = w} (omega arith) (omega arith))))
+    let w = c .args .row in (
+      omega (arith, digits-lt {q = i} {m = c .args .rows} {r = c .args .target / 8} {c = w} (omega arith) (omega arith)),
+      (
+        omega (arith, digits-lt {q = i} {m = c .args .rows} {r = c .args .a / 8} {c = w} (omega arith) (omega arith)),
+        omega (arith, digits-lt {q = i} {m = c .args .rows} {r = c .args .b / 8} {c = w} (omega arith) (omega arith)),
+      ),
+    )
 
 pub loop-lane-again : need.loop-lane-again
 loop-lane-again c =

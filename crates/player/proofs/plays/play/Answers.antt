@@ -39,10 +39,13 @@ place-gate-requires g c κs =
     let e : c .gate .result ≡ gateAt (p .kinds .now) (p .places .now) i = c .gate .ensures in
     let r : Gate → ℕ = λ x. registerOf (p .sockets) bases (x .target) in
     let r′ : Gate → ℕ = λ x. registerOf (p .sockets) bases (x .first) in
-    let r″ : Gate → ℕ = λ x. registerOf (p .sockets) bases (x .second) in
-    (few-sockets bytes (p .sockets) (p .scratch) (p .kinds .now) (p .places .now) (h .0) (h .1),
-      (bases-count registers (p .sockets) (p .scratch) bases fit,
-        (omega (arith, ap r e), (omega (arith, ap r′ e), omega (arith, ap r″ e)))))
+    let r″ : Gate → ℕ = λ x. registerOf (p .sockets) bases (x .second) in (
+      few-sockets bytes (p .sockets) (p .scratch) (p .kinds .now) (p .places .now) (h .0) (h .1),
+      (
+        bases-count registers (p .sockets) (p .scratch) bases fit,
+        (omega (arith, ap r e), (omega (arith, ap r′ e), omega (arith, ap r″ e))),
+      ),
+    )
 
 pub returns-in-Break-gate : need.returns-in-Break-gate
 returns-in-Break-gate g c =
@@ -63,9 +66,9 @@ returns-in-Break-gate g c =
     let b = second-below bytes (p .sockets) (p .scratch) (p .kinds .now) (p .places .now) (h .0) (h .1) (m .registers) bases fit i (c .loop-i-test .taken) in
     let e : c .place-gate .result ≡ placed (p .sockets) bases (gateAt (p .kinds .now) (p .places .now) i) = c .place-gate .ensures ∙ ap (placed (p .sockets) bases) (c .gate .ensures) in
     let ok : gateAnswer n (c .place-gate .result .target) (c .place-gate .result .first) (c .place-gate .result .second) ≡ Ok tt =
-      gate-accepted n (c .place-gate .result .target) (c .place-gate .result .first) (c .place-gate .result .second)
-        (omega (arith, ap (λ (x : Gate). x .target) e)) (omega (arith, ap (λ (x : Gate). x .first) e)) (omega (arith, ap (λ (x : Gate). x .second) e))
-        (omega (arith, c .left-left .ensures)) in
+    gate-accepted n (c .place-gate .result .target) (c .place-gate .result .first) (c .place-gate .result .second)
+    (omega (arith, ap (λ (x : Gate). x .target) e)) (omega (arith, ap (λ (x : Gate). x .first) e)) (omega (arith, ap (λ (x : Gate). x .second) e))
+    (omega (arith, c .left-left .ensures)) in
     let said = c .in-Break-gate .ensures tt .answer in
     absurd (let z : _≡_ {A = ℕ} 0 1 = cc in omega arith)
 
@@ -77,15 +80,16 @@ loop-i-again g c =
     let m = told (g .B·Bench .registers) (g .B·Bench .lanes) (g .B·Bench .left) (g .B·Bench .shows) (c .args .bench .now) in
     let below = g .B·Bench .beneath (c .args .bench .now) in
     let gs = so-far (p .sockets) bases (p .kinds .now) (p .places .now) i in
-    let e : c .place-gate .result ≡ placed (p .sockets) bases (gateAt (p .kinds .now) (p .places .now) i) = c .place-gate .ensures ∙ ap (placed (p .sockets) bases) (c .gate .ensures) in
-    (c .in-Continue-gate .ensures tt .leaves
-    ∙ ap₂ done e (c .loop-i .inv .0)
-    ∙ sym (ran-push gs (placed (p .sockets) bases (gateAt (p .kinds .now) (p .places .now) i)) m)
-    ∙ sym (ap (λ x. ran x m) (so-far-more (p .sockets) bases (p .kinds .now) (p .places .now) i)),
+    let e : c .place-gate .result ≡ placed (p .sockets) bases (gateAt (p .kinds .now) (p .places .now) i) = c .place-gate .ensures ∙ ap (placed (p .sockets) bases) (c .gate .ensures) in (
+      c .in-Continue-gate .ensures tt .leaves
+          ∙ ap₂ done e (c .loop-i .inv .0)
+          ∙ sym (ran-push gs (placed (p .sockets) bases (gateAt (p .kinds .now) (p .places .now) i)) m)
+          ∙ sym (ap (λ x. ran x m) (so-far-more (p .sockets) bases (p .kinds .now) (p .places .now) i)),
       c .in-Continue-gate .ensures tt .beneath
-      ∙ ap₂ doneIn e (c .loop-i .inv .1)
-      ∙ sym (ranIn-push gs (placed (p .sockets) bases (gateAt (p .kinds .now) (p .places .now) i)) below)
-      ∙ sym (ap (λ x. ranIn x below) (so-far-more (p .sockets) bases (p .kinds .now) (p .places .now) i)))
+          ∙ ap₂ doneIn e (c .loop-i .inv .1)
+          ∙ sym (ranIn-push gs (placed (p .sockets) bases (gateAt (p .kinds .now) (p .places .now) i)) below)
+          ∙ sym (ap (λ x. ranIn x below) (so-far-more (p .sockets) bases (p .kinds .now) (p .places .now) i)),
+    )
 
 pub returns : need.returns
 returns g c =

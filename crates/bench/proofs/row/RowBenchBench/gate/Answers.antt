@@ -15,7 +15,7 @@ gate-rows-requires c κs =
     let n = length (c .args .self .now .bytes .now) in
     let w = fit (c .args .self .now .width) in
     let room : c .rows-rows .result * c .row-row .result ≤ n =
-      subst (λ x. x ≤ n) (sym (ap₂ (λ x y. x * y) (c .rows-rows .ensures) (c .row-row .ensures))) (rows-fit n w) in
+    subst (λ x. x ≤ n) (sym (ap₂ (λ x y. x * y) (c .rows-rows .ensures) (c .row-row .ensures))) (rows-fit n w) in
     (room, (omega arith, (omega arith, omega arith)))
 
 pub returns : need.returns

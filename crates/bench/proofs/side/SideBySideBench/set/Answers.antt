@@ -25,9 +25,9 @@ returns-then-lane-inner g c =
     record {
       answer = search needs;
       leaves = ap (λ x. sideModel x n) (c .set .ensures .leaves ∙ ap (λ x. after x (written r l v m) m) ok)
-        ∙ side-written-first m n r l v (omega arith) h f ∙ sym (ap (λ x. after x (written r l v (sideModel m n)) (sideModel m n)) ok);
+          ∙ side-written-first m n r l v (omega arith) h f ∙ sym (ap (λ x. after x (written r l v (sideModel m n)) (sideModel m n)) ok);
       beneath = ap (λ z. both z y) (c .set .ensures .beneath ∙ ap (λ z. after z (writtenIn r l v x) x) ok)
-        ∙ sym (in-first x y r l v (omega arith)) ∙ sym (ap (λ z. after z (writtenIn r l v (both x y)) (both x y)) ok);
+          ∙ sym (in-first x y r l v (omega arith)) ∙ sym (ap (λ z. after z (writtenIn r l v (both x y)) (both x y)) ok);
     }
 
 pub returns-else-lane-inner : need.returns-else-lane-inner
@@ -48,7 +48,7 @@ returns-else-lane-inner g c =
     record {
       answer = search needs;
       leaves = ap (sideModel m) (call .ensures .leaves ∙ ap (λ x. after x (written r (l - c .lanes-inner .result) v n) n) ok ∙ ap (λ x. written r (l - x) v n) at)
-        ∙ side-written-second m n r l v (omega arith) h f ∙ sym (ap (λ x. after x (written r l v (sideModel m n)) (sideModel m n)) ok);
+          ∙ side-written-second m n r l v (omega arith) h f ∙ sym (ap (λ x. after x (written r l v (sideModel m n)) (sideModel m n)) ok);
       beneath = ap (both x) (call .ensures .beneath ∙ ap (λ z. after z (writtenIn r (l - c .lanes-inner .result) v y) y) ok ∙ ap (λ z. writtenIn r (l - z) v y) (at ∙ sym tie))
-        ∙ sym (in-second x y r l v (omega arith)) ∙ sym (ap (λ z. after z (writtenIn r l v (both x y)) (both x y)) ok);
+          ∙ sym (in-second x y r l v (omega arith)) ∙ sym (ap (λ z. after z (writtenIn r l v (both x y)) (both x y)) ok);
     }

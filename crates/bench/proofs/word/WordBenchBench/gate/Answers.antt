@@ -18,7 +18,7 @@ returns c =
     let p : getD words (c .args .a) 0 < 2 ^ 64 = search needs in
     let q : getD words (c .args .b) 0 < 2 ^ 64 = search needs in
     let leaves = ap₂ (λ v n. wordModel (set words (c .args .target) v) (n - 1)) (c .combine .ensures) (c .left-left .ensures)
-        ∙ word-gated (c .args .kind) words (c .args .self .now .left) (c .args .target) (c .args .a) (c .args .b) t a b p q in
+    ∙ word-gated (c .args .kind) words (c .args .self .now .left) (c .args .target) (c .args .a) (c .args .b) t a b p q in
     record {
       answer = search needs;
       leaves = leaves;

@@ -15,7 +15,7 @@ returns c =
     let t : c .args .register < wordCount words = omega arith in
     let l : c .args .lane < 64 = omega arith in
     let leaves = ap (λ v. wordModel (set words (c .args .register) v) (c .args .self .now .left)) (c .put-bit .ensures)
-        ∙ word-written words (c .args .self .now .left) (c .args .register) (c .args .lane) (c .args .value) t l in
+    ∙ word-written words (c .args .self .now .left) (c .args .register) (c .args .lane) (c .args .value) t l in
     record {
       answer = search needs;
       leaves = leaves;
