@@ -1,0 +1,3 @@
+pub mod Counts
+pub mod Accepted
+pub mod Turns

@@ -1,0 +1,4 @@
+pub mod Layout
+pub mod Pages
+pub mod Plays
+pub mod Plans
