@@ -49,7 +49,7 @@ placing want s lane n = ask (fits s) (unitFault Size 0) (ask (ltb lane (s .lanes
 abbrev pub reading : Shape → ℕ → ℕ → Option Fault
 reading s lane n =
     ask (fits s) (unitFault Size 0)
-      (ask (ltb lane (s .lanes)) (unitFault Lane lane) (ask (eqb n 16) (unitFault Sixteen n) (ask (getD (s .records) lane empty .block) (unitFault Block lane) None)))
+    (ask (ltb lane (s .lanes)) (unitFault Lane lane) (ask (eqb n 16) (unitFault Sixteen n) (ask (getD (s .records) lane empty .block) (unitFault Block lane) None)))
 
 abbrev pub scheduling : Shape → Option Fault
 scheduling s = ask (fits s) (unitFault Size 0) (ask (anyPlaced (s .records)) (unitFault Work 0) (enough K (s .left)))

@@ -1,1 +1,5 @@
 pub mod Records
+pub mod Works
+pub mod View
+pub mod Held
+pub mod Answers

@@ -6,14 +6,12 @@
 use Prim.Native.Nat.{ℕ, _+_, _*_}
 use mathlib.Core.List.{List, map}
 use lib.ListN.{getD, set, length, replicate}
-use Rattle.bench.specs.declared.benches.Bench.{Ghosts}
-use Rattle.bench.specs.Model.{Model, Memory, told}
+use Rattle.bench.specs.Model.{Model, Memory}
 use Rattle.lane.specs.Spans.{laid, laidIn, bitsOf, zeroed, zeroedIn}
 use Rattle.plans.specs.declared.plays.Play.{Play}
 use Rattle.plans.specs.Plans.{schedulePlan, sealPlan, openPlan}
 use Rattle.plans.specs.Layout.{free}
 use Rattle.unit.specs.declared.records.LaneRecord.{LaneRecord}
-use Rattle.unit.specs.declared.unit.CipherUnit.{CipherUnit}
 use Rattle.unit.specs.Records.{empty, withKey, withBlock, promotes}
 use Rattle.unit.specs.Works.{kind, worked, workedIn}
 
@@ -27,12 +25,6 @@ pub record Shape : Type 0 where
   pub lanes : ℕ
   pub left : ℕ
   pub records : List LaneRecord
-
-abbrev pub meaning : {B : Type 0} → Ghosts B → B → Model
-meaning g b = told (g .registers) (g .lanes) (g .left) (g .shows) b
-
-abbrev pub view : {B : Type 0} → Ghosts B → CipherUnit B → View
-view g u = record { model = meaning g (u .bench); beneath = g .beneath (u .bench); records = u .table .records }
 
 abbrev pub shape : View → Shape
 shape v = record { registers = v .model .registers; lanes = v .model .lanes; left = v .model .left; records = v .records }

@@ -2,5 +2,7 @@
 //
 //   records   what is recorded of a lane
 //   table     the records of all lanes
+//   unit      the calls
 pub mod records;
 pub mod table;
+pub mod unit;

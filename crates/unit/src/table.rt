@@ -52,7 +52,11 @@ const EMPTY: LaneRecord = LaneRecord {
 fn record_at(records: &[LaneRecord], lane: usize) -> LaneRecord
     ensures { λ r. ⌜ r ≡ getD (now (records .entry)) lane empty ⌝ }
 {
-    if lane < records.len() { records[lane] } else { EMPTY }
+    if lane < records.len() {
+        records[lane]
+    } else {
+        EMPTY
+    }
 }
 
 fn put_at(records: &mut [LaneRecord], lane: usize, entry: LaneRecord)

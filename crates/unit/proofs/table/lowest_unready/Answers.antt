@@ -10,8 +10,8 @@ returns-then-not-is-scheduled c =
 pub loop-i-again : need.loop-i-again
 loop-i-again c =
     elim (c .else-r .came) [
-      else-r·by·then-r·else-not-is-scheduled w ↦ low-next _ _ (c .loop-i-test .taken) (c .loop-i .inv) (ready-if _ _ (sym (w .is-scheduled .ensures) ∙ w .if-not-is-scheduled .left))
-    | else-r·by·else-r w ↦ low-next _ _ (c .loop-i-test .taken) (c .loop-i .inv) (absent-if _ _ (w .if-r .left))
+      | else-r·by·then-r·else-not-is-scheduled w ↦ low-next _ _ (c .loop-i-test .taken) (c .loop-i .inv) (ready-if _ _ (sym (w .is-scheduled .ensures) ∙ w .if-not-is-scheduled .left))
+      | else-r·by·else-r w ↦ low-next _ _ (c .loop-i-test .taken) (c .loop-i .inv) (absent-if _ _ (w .if-r .left))
     ]
 
 pub returns : need.returns
