@@ -1,0 +1,2 @@
+// The law over every list of calls on a unit.
+pub mod calls;
