@@ -3,3 +3,5 @@ pub mod Field
 pub mod Cipher
 pub mod KeyExpansion
 pub mod Kinds
+pub mod States
+pub mod Undoing

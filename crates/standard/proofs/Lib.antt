@@ -1,0 +1,3 @@
+pub mod BitLaws
+pub mod Tests
+pub mod FieldLaws
