@@ -1,3 +1,5 @@
 pub mod BitLaws
 pub mod Tests
 pub mod FieldLaws
+pub mod StateLaws
+pub mod Columns
