@@ -3,3 +3,6 @@ pub mod Tests
 pub mod FieldLaws
 pub mod StateLaws
 pub mod Columns
+pub mod Rounds
+pub mod Words
+pub mod UnderKeys

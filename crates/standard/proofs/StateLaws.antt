@@ -27,7 +27,7 @@ bytes-map f e [] = tt
 bytes-map f e (j ∷ js) = (e j, bytes-map f e js)
 
 -- a function of bytes, at each byte
-map-bytes : (f : ℕ → ℕ) → ((v : ℕ) → v < 256 → f v < 256) → (xs : List ℕ) → Bytes xs → Bytes (map f xs)
+pub map-bytes : (f : ℕ → ℕ) → ((v : ℕ) → v < 256 → f v < 256) → (xs : List ℕ) → Bytes xs → Bytes (map f xs)
 map-bytes f e [] h = tt
 map-bytes f e (x ∷ xs) h = (e x (h .0), map-bytes f e xs (h .1))
 
