@@ -3,7 +3,7 @@ use mathlib.Core.Path.{_≡_, refl, sym, ap, ap₂, _∙_}
 use mathlib.Core.Bool.{Bool, true, false, cond, _||_}
 use Prim.Native.Nat.{ℕ, zero, suc, _+_, _*_, _/_, _%_, _^_, _<_}
 use native.Mathlib.Omega.{arith}
-use lib.Bits.{bitXor, xor-shr, xor-lt}
+use lib.Bits.{bitXor, xor-shr, xor-lt, xor-assoc}
 use lib.Dec.{T, eqb, leb, eqb→eq}
 use Rattle.standard.specs.Bits.{odd}
 use Rattle.standard.specs.Field.{xtime, mulBy, mul, inverse, rotl, affine, invAffine, SBox, InvSBox}
@@ -21,6 +21,11 @@ mulBy-xor (suc n) a b c =
 pub mul-xor : (a b c : ℕ) → mul a (bitXor b c) ≡ bitXor (mul a b) (mul a c)
 unfolding mul
 mul-xor a b c = mulBy-xor 8 a b c
+
+-- the product by one bit more, after what is summed up already
+pub mulBy-step : (n p a b : ℕ) → bitXor p (mulBy (suc n) a b) ≡ bitXor (bitXor p (cond (odd b) a 0)) (mulBy n (xtime a) (b / 2))
+unfolding mulBy
+mulBy-step n p a b = sym (xor-assoc p (cond (odd b) a 0) (mulBy n (xtime a) (b / 2)))
 
 pub xtime-byte : (a : ℕ) → xtime a < 256
 unfolding xtime
@@ -51,6 +56,10 @@ mul-one = equal-below (mul 1) (λ v. v) 256 tt
 pub inverse-byte : (v : ℕ) → v < 256 → inverse v < 256
 unfolding tests inverse
 inverse-byte = small-below inverse 256 256 tt
+
+pub inverse-zero : inverse 0 ≡ 0
+unfolding inverse
+inverse-zero = refl
 
 pub inverse-inverts : (v : ℕ) → v < 256 → (v ≡ 0 → ⊥) → mul v (inverse v) ≡ 1
 unfolding tests mul inverse
