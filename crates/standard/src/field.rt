@@ -56,13 +56,13 @@ fn turned(b: u8, places: u8) -> u8
 }
 
 // The affine rule of SubBytes.
-fn affine(b: u8) -> u8
+pub fn affine(b: u8) -> u8
     ensures { λ r. ⌜ r ≡ affine b ⌝ }
 {
     b ^ (turned(b, 1) ^ (turned(b, 2) ^ (turned(b, 3) ^ (turned(b, 4) ^ 0x63))))
 }
 
-fn inv_affine(b: u8) -> u8
+pub fn inv_affine(b: u8) -> u8
     ensures { λ r. ⌜ r ≡ invAffine b ⌝ }
 {
     turned(b, 1) ^ (turned(b, 3) ^ (turned(b, 6) ^ 0x05))
