@@ -3,6 +3,7 @@ use mathlib.Core.Path.{_≡_, refl, sym, ap, ap₂, _∙_}
 use mathlib.Core.Bool.{Bool, true, false, cond, _&&_}
 use mathlib.Core.List.{List, [], _∷_, _++_, map}
 use Prim.Native.Nat.{ℕ, zero, suc, _+_, _-_, _*_, _/_, _%_, _<_, _≤_}
+use native.Mathlib.Numerals.{add-one}
 use native.Mathlib.Omega.{arith}
 use lib.Dec.{eqb, ltb}
 use lib.ListN.{getD, length}
@@ -68,6 +69,12 @@ module _ (nk : ℕ) (some-words : 1 ≤ nk) (k : ℕ → ℕ) where
 
 pub expands : WordsExpand
 expands nk h k = (first-words nk h k, later-words nk h k)
+
+-- ---- the round constants
+pub Rcon-more : (i : ℕ) → 1 ≤ i → Rcon (i + 1) ≡ xtime (Rcon i)
+unfolding Rcon
+Rcon-more zero h = absurd (omega arith)
+Rcon-more (suc i) h = ap Rcon (add-one (suc i))
 
 -- ---- bytes
 pub Rcon-byte : (n : ℕ) → Rcon n < 256
