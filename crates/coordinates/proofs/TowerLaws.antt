@@ -60,9 +60,10 @@ module _ (p q : ℕ) (hp : Sixteenth p) (hq : Sixteenth q) where
 
   pub pair-once : (firstOf (over p q) ≡ p) × (secondOf (over p q) ≡ q)
   pair-once =
-      let both = and-r formula (eqb (firstOf (over p q)) p && eqb (secondOf (over p q)) q) parts in
-      ( eqb→eq (firstOf (over p q)) p (and-l (eqb (firstOf (over p q)) p) (eqb (secondOf (over p q)) q) both)
-      , eqb→eq (secondOf (over p q)) q (and-r (eqb (firstOf (over p q)) p) (eqb (secondOf (over p q)) q) both) )
+      let both = and-r formula (eqb (firstOf (over p q)) p && eqb (secondOf (over p q)) q) parts in (
+        eqb→eq (firstOf (over p q)) p (and-l (eqb (firstOf (over p q)) p) (eqb (secondOf (over p q)) q) both),
+        eqb→eq (secondOf (over p q)) q (and-r (eqb (firstOf (over p q)) p) (eqb (secondOf (over p q)) q) both),
+      )
 
 pub inverse-tower : InverseByTower
 inverse-tower = inverse-pair

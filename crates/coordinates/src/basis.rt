@@ -6,6 +6,7 @@ ghost use Rattle.coordinates.specs.Tower.{BasisIsProducts};
 
 // The chosen bytes, and the coordinates of 01, 02, 04, .., 80.
 const CHOSEN: [u8; 8] = [0x66, 0x7d, 0x4c, 0xc9, 0x36, 0xcc, 0x11, 0x98];
+
 const BITS: [u8; 8] = [0x99, 0x3e, 0xb1, 0x7d, 0xd9, 0x46, 0xc8, 0x24];
 
 // The XOR of those bytes whose bit of v is set.

@@ -6,7 +6,8 @@ ghost use Rattle.standard.specs.Field.{mul, affine, invAffine};
 ghost use Rattle.standard.specs.KeyExpansion.{Rcon};
 ghost use Rattle.coordinates.specs.Coordinates.{toCoordinates};
 ghost use Rattle.coordinates.specs.Carried.{carriedAffine, carriedInvAffine, carriedTimes, carriedRcon};
-use crate::basis::{from_coordinates, to_coordinates};
+use crate::basis::from_coordinates;
+use crate::basis::to_coordinates;
 use standard::expansion::rcon;
 use standard::field;
 

@@ -1,4 +1,4 @@
 // The coordinates of bytes (specs/), and what is shown of them.
 pub mod basis;
-pub mod tower;
 pub mod carried;
+pub mod tower;

@@ -51,7 +51,7 @@ row k l m n a b c d = bitXor (mul k a) (bitXor (mul l b) (bitXor (mul m c) (mul 
 row-xor : (k l m n a b c d a′ b′ c′ d′ : ℕ) → row k l m n (bitXor a a′) (bitXor b b′) (bitXor c c′) (bitXor d d′) ≡ bitXor (row k l m n a b c d) (row k l m n a′ b′ c′ d′)
 row-xor k l m n a b c d a′ b′ c′ d′ =
     ap₂ bitXor (mul-xor k a a′) (ap₂ bitXor (mul-xor l b b′) (ap₂ bitXor (mul-xor m c c′) (mul-xor n d d′) ∙ xor-swap (mul m c) (mul m c′) (mul n d) (mul n d′))
-      ∙ xor-swap (mul l b) (mul l b′) (bitXor (mul m c) (mul n d)) (bitXor (mul m c′) (mul n d′)))
+    ∙ xor-swap (mul l b) (mul l b′) (bitXor (mul m c) (mul n d)) (bitXor (mul m c′) (mul n d′)))
     ∙ xor-swap (mul k a) (mul k a′) (bitXor (mul l b) (bitXor (mul m c) (mul n d))) (bitXor (mul l b′) (bitXor (mul m c′) (mul n d′)))
 
 -- the entry in row i and column j of the matrix whose first row is cs, and whose next rows are cs turned to the right
@@ -81,7 +81,7 @@ through-linear cs ds i j a b =
 -- both matrices after each other: the sum of what the four bytes add
 through-sum : (cs ds : List ℕ) (i a b c d : ℕ)
     → rowOf cs i (rowOf ds 0 a b c d) (rowOf ds 1 a b c d) (rowOf ds 2 a b c d) (rowOf ds 3 a b c d)
-      ≡ bitXor (through cs ds i 0 a) (bitXor (through cs ds i 1 b) (bitXor (through cs ds i 2 c) (through cs ds i 3 d)))
+    ≡ bitXor (through cs ds i 0 a) (bitXor (through cs ds i 1 b) (bitXor (through cs ds i 2 c) (through cs ds i 3 d)))
 unfolding rowOf through
 through-sum cs ds i a b c d =
     let m = λ (r j v : ℕ). mul (entry ds r j) v in
@@ -89,8 +89,8 @@ through-sum cs ds i a b c d =
     let bcd = λ (r : ℕ). bitXor (m r 1 b) (cd r) in
     rowOf-xor cs i (m 0 0 a) (m 1 0 a) (m 2 0 a) (m 3 0 a) (bcd 0) (bcd 1) (bcd 2) (bcd 3)
     ∙ ap (bitXor (through cs ds i 0 a))
-        (rowOf-xor cs i (m 0 1 b) (m 1 1 b) (m 2 1 b) (m 3 1 b) (cd 0) (cd 1) (cd 2) (cd 3)
-        ∙ ap (bitXor (through cs ds i 1 b)) (rowOf-xor cs i (m 0 2 c) (m 1 2 c) (m 2 2 c) (m 3 2 c) (m 0 3 d) (m 1 3 d) (m 2 3 d) (m 3 3 d)))
+    (rowOf-xor cs i (m 0 1 b) (m 1 1 b) (m 2 1 b) (m 3 1 b) (cd 0) (cd 1) (cd 2) (cd 3)
+    ∙ ap (bitXor (through cs ds i 1 b)) (rowOf-xor cs i (m 0 2 c) (m 1 2 c) (m 2 2 c) (m 3 2 c) (m 0 3 d) (m 1 3 d) (m 2 3 d) (m 3 3 d)))
 
 -- ---- two matrices whose product is the identity
 abbrev kept : ℕ → ℕ → ℕ → ℕ
@@ -113,12 +113,12 @@ module _ (cs ds : List ℕ) (test : T (undoes cs ds)) where
   unfolding undoes
   through-kept i j v hi hj hv =
       linear-agree (through cs ds i j) (kept i j) (through-linear cs ds i j) (kept-linear i j) 8
-        (tested2 (λ i j. tests (λ s. eqb (through cs ds i j (2 ^ s)) (kept i j (2 ^ s))) 8) 4 4 test i j hi hj) v hv
+      (tested2 (λ i j. tests (λ s. eqb (through cs ds i j (2 ^ s)) (kept i j (2 ^ s))) 8) 4 4 test i j hi hj) v hv
 
   -- byte i of a column comes back
   row-back : (i a b c d : ℕ) → i < 4 → a < 256 → b < 256 → c < 256 → d < 256
       → rowOf cs i (rowOf ds 0 a b c d) (rowOf ds 1 a b c d) (rowOf ds 2 a b c d) (rowOf ds 3 a b c d)
-        ≡ bitXor (kept i 0 a) (bitXor (kept i 1 b) (bitXor (kept i 2 c) (kept i 3 d)))
+      ≡ bitXor (kept i 0 a) (bitXor (kept i 1 b) (bitXor (kept i 2 c) (kept i 3 d)))
   row-back i a b c d hi ha hb hc hd =
       through-sum cs ds i a b c d
       ∙ ap₂ bitXor (through-kept i 0 a hi (omega arith) ha) (ap₂ bitXor (through-kept i 1 b hi (omega arith) hb) (ap₂ bitXor (through-kept i 2 c hi (omega arith) hc) (through-kept i 3 d hi (omega arith) hd)))
@@ -158,11 +158,11 @@ mix-is (a ∷ b ∷ c ∷ []) h = refl
 mix-is (a ∷ b ∷ c ∷ d ∷ rest) h =
     let ea = sym (mul-one a (h .0)) in let eb = sym (mul-one b (h .1 .0)) in let ec = sym (mul-one c (h .1 .1 .0)) in let ed = sym (mul-one d (h .1 .1 .1 .0)) in
     cons4
-      (ap (λ (x : ℕ). bitXor (mul 2 a) (bitXor (mul 3 b) x)) (ap₂ bitXor ec ed))
-      (ap₂ (λ (x y : ℕ). bitXor x (bitXor (mul 2 b) (bitXor (mul 3 c) y))) ea ed)
-      (ap₂ (λ (x y : ℕ). bitXor x (bitXor y (bitXor (mul 2 c) (mul 3 d)))) ea eb)
-      (ap₂ (λ (x y : ℕ). bitXor (mul 3 a) (bitXor x (bitXor y (mul 2 d)))) eb ec)
-      (mix-is rest (h .1 .1 .1 .1))
+    (ap (λ (x : ℕ). bitXor (mul 2 a) (bitXor (mul 3 b) x)) (ap₂ bitXor ec ed))
+    (ap₂ (λ (x y : ℕ). bitXor x (bitXor (mul 2 b) (bitXor (mul 3 c) y))) ea ed)
+    (ap₂ (λ (x y : ℕ). bitXor x (bitXor y (bitXor (mul 2 c) (mul 3 d)))) ea eb)
+    (ap₂ (λ (x y : ℕ). bitXor (mul 3 a) (bitXor x (bitXor y (mul 2 d)))) eb ec)
+    (mix-is rest (h .1 .1 .1 .1))
 
 invMix-is : (xs : List ℕ) → InvMixColumns xs ≡ byColumns unmixing xs
 unfolding rowOf
@@ -189,8 +189,8 @@ row-byte : (cs : List ℕ) → Entries cs → (i a b c d : ℕ) → rowOf cs i a
 unfolding rowOf entry
 row-byte cs h i a b c d =
     xor-lt 8 (mul (entry cs i 0) a) _ (mul-byte (entry cs i 0) a (h ((0 + 4 - i) % 4)))
-      (xor-lt 8 (mul (entry cs i 1) b) _ (mul-byte (entry cs i 1) b (h ((1 + 4 - i) % 4)))
-        (xor-lt 8 (mul (entry cs i 2) c) (mul (entry cs i 3) d) (mul-byte (entry cs i 2) c (h ((2 + 4 - i) % 4))) (mul-byte (entry cs i 3) d (h ((3 + 4 - i) % 4)))))
+    (xor-lt 8 (mul (entry cs i 1) b) _ (mul-byte (entry cs i 1) b (h ((1 + 4 - i) % 4)))
+    (xor-lt 8 (mul (entry cs i 2) c) (mul (entry cs i 3) d) (mul-byte (entry cs i 2) c (h ((2 + 4 - i) % 4))) (mul-byte (entry cs i 3) d (h ((3 + 4 - i) % 4)))))
 
 byColumns-bytes : (cs : List ℕ) → Entries cs → (xs : List ℕ) → Bytes (byColumns cs xs)
 byColumns-bytes cs h [] = tt
@@ -209,11 +209,11 @@ byColumns-back cs ds t (a ∷ b ∷ c ∷ d ∷ rest) zero e h = absurd (omega a
 byColumns-back cs ds t (a ∷ b ∷ c ∷ d ∷ rest) (suc q) e h =
     let ha = h .0 in let hb = h .1 .0 in let hc = h .1 .1 .0 in let hd = h .1 .1 .1 .0 in
     cons4
-      (row-back cs ds t 0 a b c d (omega arith) ha hb hc hd ∙ xor-zero-r a)
-      (row-back cs ds t 1 a b c d (omega arith) ha hb hc hd ∙ xor-zero-r b)
-      (row-back cs ds t 2 a b c d (omega arith) ha hb hc hd ∙ xor-zero-r c)
-      (row-back cs ds t 3 a b c d (omega arith) ha hb hc hd)
-      (byColumns-back cs ds t rest q (omega arith) (h .1 .1 .1 .1))
+    (row-back cs ds t 0 a b c d (omega arith) ha hb hc hd ∙ xor-zero-r a)
+    (row-back cs ds t 1 a b c d (omega arith) ha hb hc hd ∙ xor-zero-r b)
+    (row-back cs ds t 2 a b c d (omega arith) ha hb hc hd ∙ xor-zero-r c)
+    (row-back cs ds t 3 a b c d (omega arith) ha hb hc hd)
+    (byColumns-back cs ds t rest q (omega arith) (h .1 .1 .1 .1))
 
 small4 : (a b c d : ℕ) → a < 256 → b < 256 → c < 256 → d < 256 → Entries (a ∷ b ∷ c ∷ d ∷ [])
 small4 a b c d ha hb hc hd zero = ha

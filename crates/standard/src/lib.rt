@@ -1,4 +1,4 @@
 // The cipher of FIPS 197 as definitions (specs/), and what is shown of it for every key and block.
-pub mod field;
 pub mod expansion;
+pub mod field;
 pub mod undoing;

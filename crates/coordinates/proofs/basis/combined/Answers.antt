@@ -19,9 +19,10 @@ summed : (c : need.Joined-v-i-eq1) → c .if-v-i-eq1 .sum ≡ bitXor (c .loop-i 
 unfolding bit
 summed c =
     let to = λ (q : Bool). bitXor (c .loop-i .sum) (cond q (getD (c .args .bytes .now) (c .loop-i .i) 0) 0) in
-    elim (c .if-v-i-eq1 .came)
-      [ then-v-i-eq1 w ↦ w .sum-is ∙ sym (ap to (eq-eqb _ 1 (w .if-v-i-eq1 .taken)))
-      | else-v-i-eq1 w ↦ w .sum-is ∙ sym (ap to (ne-eqb _ 1 (w .if-v-i-eq1 .left)) ∙ xor-zero-r (c .loop-i .sum)) ]
+    elim (c .if-v-i-eq1 .came) [
+      | then-v-i-eq1 w ↦ w .sum-is ∙ sym (ap to (eq-eqb _ 1 (w .if-v-i-eq1 .taken)))
+      | else-v-i-eq1 w ↦ w .sum-is ∙ sym (ap to (ne-eqb _ 1 (w .if-v-i-eq1 .left)) ∙ xor-zero-r (c .loop-i .sum))
+    ]
 
 pub loop-i-again : need.loop-i-again
 loop-i-again c =

@@ -21,7 +21,8 @@ pub returns : need.returns
 returns c =
     let a = c .args .a in
     let h : a < 256 = omega arith in
-    record
-      { is = power c
-      ; inverts = λ nonzero. ap (mul a) (power c) ∙ inverse-inverts a h nonzero
-      ; zero = λ e. power c ∙ ap inverse e ∙ inverse-zero }
+    record {
+      is = power c;
+      inverts = λ nonzero. ap (mul a) (power c) ∙ inverse-inverts a h nonzero;
+      zero = λ e. power c ∙ ap inverse e ∙ inverse-zero;
+    }

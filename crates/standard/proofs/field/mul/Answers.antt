@@ -18,9 +18,10 @@ loop-i-holds c = refl
 summed : (c : need.After-xtime-power) → c .if-rest-eq1 .product ≡ bitXor (c .loop-i .product) (cond (odd (c .loop-i .rest)) (c .loop-i .power) 0)
 summed c =
     let to = λ (q : Bool). bitXor (c .loop-i .product) (cond q (c .loop-i .power) 0) in
-    elim (c .if-rest-eq1 .came)
-      [ then-rest-eq1 w ↦ w .product-is ∙ sym (ap to (eq-eqb _ 1 (w .if-rest-eq1 .taken)))
-      | else-rest-eq1 w ↦ w .product-is ∙ sym (ap to (ne-eqb _ 1 (w .if-rest-eq1 .left)) ∙ xor-zero-r (c .loop-i .product)) ]
+    elim (c .if-rest-eq1 .came) [
+      | then-rest-eq1 w ↦ w .product-is ∙ sym (ap to (eq-eqb _ 1 (w .if-rest-eq1 .taken)))
+      | else-rest-eq1 w ↦ w .product-is ∙ sym (ap to (ne-eqb _ 1 (w .if-rest-eq1 .left)) ∙ xor-zero-r (c .loop-i .product))
+    ]
 
 pub loop-i-again : need.loop-i-again
 loop-i-again c =
