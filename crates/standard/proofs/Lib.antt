@@ -2,7 +2,9 @@ pub mod BitLaws
 pub mod Tests
 pub mod FieldLaws
 pub mod StateLaws
-pub mod Columns
+pub mod Matrices
 pub mod Rounds
 pub mod Words
 pub mod UnderKeys
+pub mod Filling
+pub mod Loops

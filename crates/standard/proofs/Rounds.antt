@@ -7,7 +7,7 @@ use Rattle.standard.specs.Cipher.{SubBytes, ShiftRows, MixColumns, AddRoundKey
 use Rattle.standard.specs.States.{Bytes, State, RoundKeys}
 use Rattle.standard.specs.Undoing.{InvCipherUndoesCipher, CipherUndoesInvCipher}
 use Rattle.standard.proofs.StateLaws.{sub-state, invSub-state, shift-state, invShift-state, add-state, invSub-sub, sub-invSub, invShift-shift, shift-invShift, add-add}
-use Rattle.standard.proofs.Columns.{mix-state, invMix-state, invMix-mix, mix-invMix}
+use Rattle.standard.proofs.Matrices.{mix-state, invMix-state, invMix-mix, mix-invMix}
 
 -- ---- one round
 shiftSub-state : (st : List ℕ) → State st → State (ShiftRows (SubBytes st))

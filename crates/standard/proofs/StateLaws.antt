@@ -22,6 +22,10 @@ bytes-at [] h j = omega arith
 bytes-at (x ∷ xs) h zero = h .0
 bytes-at (x ∷ xs) h (suc j) = bytes-at xs (h .1) j
 
+pub bytes-from : (xs : List ℕ) → ((j : ℕ) → getD xs j 0 < 256) → Bytes xs
+bytes-from [] h = tt
+bytes-from (x ∷ xs) h = (h 0, bytes-from xs (λ j. h (suc j)))
+
 pub bytes-map : (f : ℕ → ℕ) → ((j : ℕ) → f j < 256) → (js : List ℕ) → Bytes (map f js)
 bytes-map f e [] = tt
 bytes-map f e (j ∷ js) = (e j, bytes-map f e js)

@@ -11,6 +11,7 @@ use lib.Dec.{T, eqb, eqb→eq}
 use lib.ListN.{getD, length}
 use Rattle.std.proofs.shelf.Tests.{cases-lt}
 use Rattle.standard.specs.Field.{mul}
+use Rattle.standard.specs.Columns.{row, entry, rowOf, byColumns, mixing, unmixing}
 use Rattle.standard.specs.Cipher.{MixColumns, InvMixColumns}
 use Rattle.standard.specs.States.{Bytes, State}
 use Rattle.standard.proofs.BitLaws.{xor-swap}
@@ -45,23 +46,11 @@ linear-agree f g lf lg (suc n) t v h =
         ap f parts ∙ lf (2 ^ n) u ∙ ap₂ bitXor top (low u small) ∙ sym (ap g parts ∙ lg (2 ^ n) u)
 
 -- ---- a sum of four products, and columns of four
-abbrev row : ℕ → ℕ → ℕ → ℕ → ℕ → ℕ → ℕ → ℕ → ℕ
-row k l m n a b c d = bitXor (mul k a) (bitXor (mul l b) (bitXor (mul m c) (mul n d)))
-
 row-xor : (k l m n a b c d a′ b′ c′ d′ : ℕ) → row k l m n (bitXor a a′) (bitXor b b′) (bitXor c c′) (bitXor d d′) ≡ bitXor (row k l m n a b c d) (row k l m n a′ b′ c′ d′)
 row-xor k l m n a b c d a′ b′ c′ d′ =
     ap₂ bitXor (mul-xor k a a′) (ap₂ bitXor (mul-xor l b b′) (ap₂ bitXor (mul-xor m c c′) (mul-xor n d d′) ∙ xor-swap (mul m c) (mul m c′) (mul n d) (mul n d′))
     ∙ xor-swap (mul l b) (mul l b′) (bitXor (mul m c) (mul n d)) (bitXor (mul m c′) (mul n d′)))
     ∙ xor-swap (mul k a) (mul k a′) (bitXor (mul l b) (bitXor (mul m c) (mul n d))) (bitXor (mul l b′) (bitXor (mul m c′) (mul n d′)))
-
--- the entry in row i and column j of the matrix whose first row is cs, and whose next rows are cs turned to the right
-unfoldable entry : List ℕ → ℕ → ℕ → ℕ
-entry cs i j = getD cs ((j + 4 - i) % 4) 0
-
--- row i of that matrix at a column
-unfoldable rowOf : List ℕ → ℕ → ℕ → ℕ → ℕ → ℕ → ℕ
-unfolding entry
-rowOf cs i a b c d = row (entry cs i 0) (entry cs i 1) (entry cs i 2) (entry cs i 3) a b c d
 
 -- what byte j of a column adds to byte i, after the matrix of ds and then that of cs
 unfoldable through : List ℕ → List ℕ → ℕ → ℕ → ℕ → ℕ
@@ -124,12 +113,6 @@ module _ (cs ds : List ℕ) (test : T (undoes cs ds)) where
       ∙ ap₂ bitXor (through-kept i 0 a hi (omega arith) ha) (ap₂ bitXor (through-kept i 1 b hi (omega arith) hb) (ap₂ bitXor (through-kept i 2 c hi (omega arith) hc) (through-kept i 3 d hi (omega arith) hd)))
 
 -- ---- the standard's two matrices
-abbrev mixing : List ℕ
-mixing = 2 ∷ 3 ∷ 1 ∷ 1 ∷ []
-
-abbrev unmixing : List ℕ
-unmixing = 14 ∷ 11 ∷ 13 ∷ 9 ∷ []
-
 unmixing-mixing : T (undoes unmixing mixing)
 unfolding undoes mul
 unmixing-mixing = tt
@@ -141,15 +124,7 @@ mixing-unmixing = tt
 cons4 : {w x y z w′ x′ y′ z′ : ℕ} {r r′ : List ℕ} → w ≡ w′ → x ≡ x′ → y ≡ y′ → z ≡ z′ → r ≡ r′ → _≡_ {A = List ℕ} (w ∷ x ∷ y ∷ z ∷ r) (w′ ∷ x′ ∷ y′ ∷ z′ ∷ r′)
 cons4 a b c d e = λ i. a i ∷ b i ∷ c i ∷ d i ∷ e i
 
--- the matrix of cs at each column of four
-abbrev byColumns : List ℕ → List ℕ → List ℕ
-byColumns cs [] = []
-byColumns cs (a ∷ []) = []
-byColumns cs (a ∷ b ∷ []) = []
-byColumns cs (a ∷ b ∷ c ∷ []) = []
-byColumns cs (a ∷ b ∷ c ∷ d ∷ rest) = rowOf cs 0 a b c d ∷ rowOf cs 1 a b c d ∷ rowOf cs 2 a b c d ∷ rowOf cs 3 a b c d ∷ byColumns cs rest
-
-mix-is : (xs : List ℕ) → Bytes xs → MixColumns xs ≡ byColumns mixing xs
+pub mix-is : (xs : List ℕ) → Bytes xs → MixColumns xs ≡ byColumns mixing xs
 unfolding rowOf
 mix-is [] h = refl
 mix-is (a ∷ []) h = refl
@@ -164,7 +139,7 @@ mix-is (a ∷ b ∷ c ∷ d ∷ rest) h =
     (ap₂ (λ (x y : ℕ). bitXor (mul 3 a) (bitXor x (bitXor y (mul 2 d)))) eb ec)
     (mix-is rest (h .1 .1 .1 .1))
 
-invMix-is : (xs : List ℕ) → InvMixColumns xs ≡ byColumns unmixing xs
+pub invMix-is : (xs : List ℕ) → InvMixColumns xs ≡ byColumns unmixing xs
 unfolding rowOf
 invMix-is [] = refl
 invMix-is (a ∷ []) = refl
