@@ -6,7 +6,10 @@
 --
 --   fromCoordinates c   the byte whose coordinates are the bits of c, c0 the lowest
 --   toCoordinates b     the coordinates of b
-use Prim.Native.Nat.{ℕ, suc}
+--   OnlyCoordinates     a byte's coordinates are the only eight bits that give it
+--   XorInCoordinates    the coordinates of an XOR are the XOR of the coordinates
+use Prim.Native.Nat.{ℕ, suc, _<_}
+use mathlib.Core.Path.{_≡_}
 use mathlib.Core.Bool.{cond}
 use mathlib.Core.List.{List, [], _∷_}
 use lib.Bits.{bitXor}
@@ -32,3 +35,9 @@ bitsInBasis = 0x99 ∷ 0x3e ∷ 0xb1 ∷ 0x7d ∷ 0xd9 ∷ 0x46 ∷ 0xc8 ∷ 0x2
 unfoldable pub toCoordinates : ℕ → ℕ
 unfolding combine
 toCoordinates b = combine bitsInBasis 0 b
+
+abbrev pub OnlyCoordinates : Type 0
+OnlyCoordinates = (b c : ℕ) → b < 256 → c < 256 → (fromCoordinates (toCoordinates b) ≡ b) × (fromCoordinates c ≡ b → c ≡ toCoordinates b)
+
+abbrev pub XorInCoordinates : Type 0
+XorInCoordinates = (a b : ℕ) → toCoordinates (bitXor a b) ≡ bitXor (toCoordinates a) (toCoordinates b)

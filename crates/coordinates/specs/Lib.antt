@@ -1,1 +1,3 @@
 pub mod Coordinates
+pub mod Tower
+pub mod Carried

@@ -1,7 +1,8 @@
 -- The key kinds of FIPS 197, section 5: how many words a key has, and how many rounds a block goes through. Assumes nothing.
 --
---   encrypted κ key block   the standard's cipher of a block under a key of kind κ; decrypted, its inverse cipher
-use Prim.Native.Nat.{ℕ, _*_}
+--   ciphered κ keys block    the standard's cipher of a block under round keys that stand one after another; deciphered, its inverse cipher
+--   encrypted κ key block    the same under a key of kind κ; decrypted, its inverse
+use Prim.Native.Nat.{ℕ, _+_, _*_}
 use mathlib.Core.List.{List, map}
 use lib.ListN.{getD}
 use Rattle.std.specs.Iters.{counting}
@@ -29,6 +30,16 @@ sixteen b = map b (counting 0 16)
 -- byte j of a list, and 0 past its end
 abbrev pub byteAt : List ℕ → ℕ → ℕ
 byteAt bytes j = getD bytes j 0
+
+-- round key n of round keys that stand one after another
+abbrev pub keyIn : List ℕ → ℕ → List ℕ
+keyIn keys n = sixteen (λ j. byteAt keys (16 * n + j))
+
+unfoldable pub ciphered : KeyKind → List ℕ → List ℕ → List ℕ
+ciphered κ keys block = Cipher (rounds κ) block (keyIn keys)
+
+unfoldable pub deciphered : KeyKind → List ℕ → List ℕ → List ℕ
+deciphered κ keys block = InvCipher (rounds κ) block (keyIn keys)
 
 -- round key n of a key
 abbrev pub roundKey : KeyKind → List ℕ → ℕ → List ℕ

@@ -1,9 +1,6 @@
 // The cipher of FIPS 197 as definitions (specs/), and what is shown of it for every key and block.
-ghost use mathlib.Core.Path.{_≡_};
-ghost use Prim.Native.Nat.{ℕ};
-
-pub fn placeholder() -> u8
-    ensures { λ r. ⌜ r ≡ 0 ⌝ }
-{
-    0
-}
+pub mod field;
+pub mod steps;
+pub mod cipher;
+pub mod expansion;
+pub mod undoing;

@@ -1,0 +1,10 @@
+pub mod BitLaws
+pub mod Tests
+pub mod FieldLaws
+pub mod StateLaws
+pub mod Matrices
+pub mod Rounds
+pub mod Words
+pub mod UnderKeys
+pub mod Filling
+pub mod Loops

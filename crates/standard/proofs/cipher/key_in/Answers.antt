@@ -1,0 +1,15 @@
+use mathlib.Core.Path.{_≡_, refl}
+use Prim.Native.Nat.{ℕ, _+_, _*_}
+use native.Mathlib.Omega.{arith}
+use lib.ListN.{getD}
+use Rattle.standard.proofs.Filling.{filled-more, filled-all}
+use Rattle.standard.proofs.cipher.key_in.Needs as need
+
+pub loop-i-holds : need.loop-i-holds
+loop-i-holds c = (refl, λ k h. absurd (omega arith))
+
+pub loop-i-again : need.loop-i-again
+loop-i-again c = filled-more (c .loop-i .out) (λ k. getD (c .args .keys .now) (16 * c .args .n + k) 0) (c .loop-i .i) _ (c .loop-i .inv) (c .loop-i-test .taken) refl
+
+pub returns : need.returns
+returns c = filled-all (c .loop-i .out) (λ k. getD (c .args .keys .now) (16 * c .args .n + k) 0) (c .loop-i .i) (c .loop-i .inv) (c .loop-i-test .left)

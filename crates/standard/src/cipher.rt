@@ -1,0 +1,60 @@
+// The cipher and the inverse cipher of FIPS 197 under eleven round keys, which stand one after another.
+ghost use mathlib.Core.Path.{_≡_};
+ghost use Prim.Native.Nat.{ℕ, _<_};
+ghost use Rattle.standard.specs.Cipher.{Round, AddRoundKey, InvSubBytes, InvShiftRows, InvMixColumns};
+ghost use Rattle.standard.specs.Kinds.{aes128, keyIn, ciphered, deciphered};
+use crate::steps::{add_round_key, inv_mix_columns, inv_shift_rows, inv_sub_bytes, mix_columns, shift_rows, sub_bytes};
+
+fn key_in(keys: &[u8; 176], n: usize) -> [u8; 16]
+    requires { ⌜ n < 11 ⌝ }
+    ensures { λ r. ⌜ r ≡ keyIn (now (keys .entry)) n ⌝ }
+{
+    let mut out = [0; 16];
+    for i in 0..16usize {
+        out[i] = keys[16 * n + i];
+    }
+    out
+}
+
+fn round(state: &[u8; 16], keys: &[u8; 176], n: usize) -> [u8; 16]
+    requires { ⌜ n < 11 ⌝ }
+    ensures { λ r. ⌜ r ≡ Round (now (state .entry)) (keyIn (now (keys .entry)) n) ⌝ }
+{
+    let mixed = mix_columns(&shift_rows(&sub_bytes(state)));
+    add_round_key(&mixed, &key_in(keys, n))
+}
+
+// The cipher, and that the inverse cipher undoes it.
+pub fn cipher(block: &[u8; 16], keys: &[u8; 176]) -> [u8; 16]
+    ensures is { λ r. ⌜ r ≡ ciphered aes128 (now (keys .entry)) (now (block .entry)) ⌝ }
+    ensures undone { λ r. ⌜ deciphered aes128 (now (keys .entry)) r ≡ now (block .entry) ⌝ }
+{
+    let mut state = add_round_key(block, &key_in(keys, 0));
+    for n in 1..10usize {
+        state = round(&state, keys, n);
+    }
+    let shifted = shift_rows(&sub_bytes(&state));
+    add_round_key(&shifted, &key_in(keys, 10))
+}
+
+fn inv_round(state: &[u8; 16], keys: &[u8; 176], n: usize) -> [u8; 16]
+    requires { ⌜ n < 11 ⌝ }
+    ensures { λ r. ⌜ r ≡ InvMixColumns (AddRoundKey (InvSubBytes (InvShiftRows (now (state .entry)))) (keyIn (now (keys .entry)) n)) ⌝ }
+{
+    let subbed = inv_sub_bytes(&inv_shift_rows(state));
+    let added = add_round_key(&subbed, &key_in(keys, n));
+    inv_mix_columns(&added)
+}
+
+// The inverse cipher, and that the cipher undoes it.
+pub fn inv_cipher(block: &[u8; 16], keys: &[u8; 176]) -> [u8; 16]
+    ensures is { λ r. ⌜ r ≡ deciphered aes128 (now (keys .entry)) (now (block .entry)) ⌝ }
+    ensures undone { λ r. ⌜ ciphered aes128 (now (keys .entry)) r ≡ now (block .entry) ⌝ }
+{
+    let mut state = add_round_key(block, &key_in(keys, 10));
+    for n in 0..9usize {
+        state = inv_round(&state, keys, 9 - n);
+    }
+    let subbed = inv_sub_bytes(&inv_shift_rows(&state));
+    add_round_key(&subbed, &key_in(keys, 0))
+}
