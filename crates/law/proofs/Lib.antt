@@ -1,3 +1,6 @@
 pub mod Planned
 pub mod Holds
 pub mod Laws
+pub mod Did
+pub mod Loop
+pub mod Whole
