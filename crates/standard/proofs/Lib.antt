@@ -8,3 +8,4 @@ pub mod Words
 pub mod UnderKeys
 pub mod Filling
 pub mod Loops
+pub mod WordBytes
