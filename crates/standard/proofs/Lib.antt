@@ -9,3 +9,4 @@ pub mod UnderKeys
 pub mod Filling
 pub mod Loops
 pub mod WordBytes
+pub mod ExampleValues

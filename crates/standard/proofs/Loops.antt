@@ -57,14 +57,14 @@ module _ (nr : ℕ) (block : List ℕ) (v v′ : ℕ → List ℕ) (same : (n : 
   same-after zero h = ap (AddRoundKey block) (same 0 h)
   same-after (suc n) h = ap₂ Round (same-after n (omega arith)) (same (suc n) h)
 
-  same-cipher : Cipher nr block v ≡ Cipher nr block v′
+  pub same-cipher : Cipher nr block v ≡ Cipher nr block v′
   same-cipher = ap₂ (λ (st key : List ℕ). AddRoundKey (ShiftRows (SubBytes st)) key) (same-after (nr - 1) (omega arith)) (same nr (omega arith))
 
   same-invAfter : (n : ℕ) → invStateAfter nr n block v ≡ invStateAfter nr n block v′
   same-invAfter zero = ap (AddRoundKey block) (same nr (omega arith))
   same-invAfter (suc n) = ap₂ (λ (st key : List ℕ). InvMixColumns (AddRoundKey (InvSubBytes (InvShiftRows st)) key)) (same-invAfter n) (same (nr - 1 - n) (omega arith))
 
-  same-invCipher : InvCipher nr block v ≡ InvCipher nr block v′
+  pub same-invCipher : InvCipher nr block v ≡ InvCipher nr block v′
   same-invCipher = ap₂ (λ (st key : List ℕ). AddRoundKey (InvSubBytes (InvShiftRows st)) key) (same-invAfter (nr - 1)) (same 0 (omega arith))
 
 -- ---- under the round keys of a key

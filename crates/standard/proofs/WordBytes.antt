@@ -73,11 +73,12 @@ module _ (k : ℕ → ℕ) where
       let e2 : n + 3 ≡ suc n + 2 = omega arith in
       let e3 : suc n + 3 ≡ n + 4 = omega arith in
       let before : n + 4 - 1 ≡ n + 3 = omega arith in
-      let t : length (temp 4 (n + 4) (w (n + 4 - 1))) ≡ 4 = temp-long (n + 4) (w (n + 4 - 1)) (ap len before ∙ h .3) in
-      ( sym (ap len e0) ∙ h .1
-      , sym (ap len e1) ∙ h .2
-      , sym (ap len e2) ∙ h .3
-      , ap len e3 ∙ ap length (next n) ∙ length-zip2 bitXor (w n) (temp 4 (n + 4) (w (n + 4 - 1))) (h .0 ∙ sym t) ∙ h .0 )
+      let t : length (temp 4 (n + 4) (w (n + 4 - 1))) ≡ 4 = temp-long (n + 4) (w (n + 4 - 1)) (ap len before ∙ h .3) in (
+        sym (ap len e0) ∙ h .1,
+        sym (ap len e1) ∙ h .2,
+        sym (ap len e2) ∙ h .3,
+        ap len e3 ∙ ap length (next n) ∙ length-zip2 bitXor (w n) (temp 4 (n + 4) (w (n + 4 - 1))) (h .0 ∙ sym t) ∙ h .0,
+      )
 
   pub word-long : (n : ℕ) → length (w n) ≡ 4
   word-long n = four-long n .0

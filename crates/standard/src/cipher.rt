@@ -4,7 +4,13 @@ ghost use Prim.Native.Nat.{ℕ, _<_};
 ghost use Rattle.standard.specs.Cipher.{Round, AddRoundKey, InvSubBytes, InvShiftRows, InvMixColumns};
 ghost use Rattle.standard.specs.Kinds.{aes128, keyIn, ciphered, deciphered, encrypted, decrypted};
 use crate::expansion::key_expansion;
-use crate::steps::{add_round_key, inv_mix_columns, inv_shift_rows, inv_sub_bytes, mix_columns, shift_rows, sub_bytes};
+use crate::steps::add_round_key;
+use crate::steps::inv_mix_columns;
+use crate::steps::inv_shift_rows;
+use crate::steps::inv_sub_bytes;
+use crate::steps::mix_columns;
+use crate::steps::shift_rows;
+use crate::steps::sub_bytes;
 
 fn key_in(keys: &[u8; 176], n: usize) -> [u8; 16]
     requires { ⌜ n < 11 ⌝ }

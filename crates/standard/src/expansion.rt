@@ -5,7 +5,8 @@ ghost use lib.Bits.{bitXor};
 ghost use lib.ListN.{getD};
 ghost use Rattle.standard.specs.KeyExpansion.{Rcon, temp, keyWord};
 ghost use Rattle.standard.specs.Kinds.{aes128, byteAt, keyIn, roundKey};
-use crate::field::{sbox, xtime};
+use crate::field::sbox;
+use crate::field::xtime;
 
 // Round constant n: 01 times 02, n - 1 times.
 pub fn rcon(n: u8) -> u8

@@ -15,6 +15,7 @@ pub returns : need.returns
 returns c =
     let key = c .args .key .now in
     let block = c .args .block .now in
-    record
-      { is = is c
-      ; undone = ap (decrypted aes128 key) (is c) ∙ decrypted-encrypted aes128 key block (bytes-from key (c .fits-key)) (c .told-block, bytes-from block (c .fits-block)) }
+    record {
+      is = is c;
+      undone = ap (decrypted aes128 key) (is c) ∙ decrypted-encrypted aes128 key block (bytes-from key (c .fits-key)) (c .told-block, bytes-from block (c .fits-block));
+    }

@@ -23,9 +23,10 @@ loop-p-again c =
     let xs = c .loop-p .words in
     let p = c .loop-p .p in
     let f = byteOf (byteAt (c .args .key .now)) in
-    let at : p < length xs = omega arith in
-    ( length-set xs p (c .next-byte .result) ∙ c .loop-p .inv .0
-    , subst (λ (x : ℕ). (k : ℕ) → k < p + 1 → getD (set xs p x) k 0 ≡ f k) (sym (written c (cases-lt p 16))) (fill-by-more f xs p 0 at (c .loop-p .inv .1)) )
+    let at : p < length xs = omega arith in (
+      length-set xs p (c .next-byte .result) ∙ c .loop-p .inv .0,
+      subst (λ (x : ℕ). (k : ℕ) → k < p + 1 → getD (set xs p x) k 0 ≡ f k) (sym (written c (cases-lt p 16))) (fill-by-more f xs p 0 at (c .loop-p .inv .1)),
+    )
 
 pub returns : need.returns
 returns c = round-keys-in (c .args .key .now) (c .loop-p .words) (λ p h. c .loop-p .inv .1 p (omega arith))
