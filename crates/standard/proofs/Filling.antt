@@ -1,11 +1,11 @@
 -- Arrays of sixteen that a loop fills by a function of the index. Assumes nothing.
-use mathlib.Core.Path.{_≡_, sym, ap, subst, _∙_}
+use mathlib.Core.Path.{_≡_, refl, sym, ap, subst, _∙_}
 use mathlib.Core.List.{List, map}
 use Prim.Native.Nat.{ℕ, _+_, _<_, _≤_}
 use native.Mathlib.Omega.{arith}
 use lib.ListN.{getD, set, length}
 use Rattle.std.specs.Iters.{counting}
-use Rattle.std.proofs.shelf.Counted.{fill-by-all}
+use Rattle.std.proofs.shelf.Counted.{fill-by-all, getD-map-counting}
 use Rattle.std.proofs.shelf.Edits.{fill-by-more}
 use Rattle.std.proofs.shelf.Lists.{length-set}
 use Rattle.standard.specs.Kinds.{sixteen}
@@ -21,3 +21,6 @@ filled-more xs f i v h hi e =
 
 pub filled-all : (xs : List ℕ) (f : ℕ → ℕ) (i : ℕ) → Filled xs f i → 16 ≤ i → xs ≡ sixteen f
 filled-all xs f i h hi = fill-by-all f xs 16 0 (h .0) (λ k hk. h .1 k (omega arith))
+
+pub sixteen-same : (f g : ℕ → ℕ) → ((j : ℕ) → j < 16 → f j ≡ g j) → sixteen f ≡ sixteen g
+sixteen-same f g h = fill-by-all g (sixteen f) 16 0 refl (λ j hj. getD-map-counting f 0 16 j j 0 hj (omega arith) ∙ h j hj)

@@ -8,3 +8,5 @@ pub mod Words
 pub mod UnderKeys
 pub mod Filling
 pub mod Loops
+pub mod WordBytes
+pub mod ExampleValues

@@ -5,7 +5,7 @@ use Prim.Native.Nat.{ℕ, zero, suc, _+_, _-_, _*_, _≤_}
 use native.Mathlib.Numerals.{add-one}
 use native.Mathlib.Omega.{arith}
 use Rattle.standard.specs.Cipher.{SubBytes, ShiftRows, AddRoundKey, Round, stateAfter, InvSubBytes, InvShiftRows, InvMixColumns, invStateAfter, Cipher, InvCipher}
-use Rattle.standard.specs.Kinds.{KeyKind, rounds, byteAt, keyIn, ciphered, deciphered}
+use Rattle.standard.specs.Kinds.{KeyKind, rounds, byteAt, keyIn, roundKey, ciphered, deciphered, encrypted, decrypted}
 use Rattle.standard.specs.States.{Bytes, State, RoundKeys}
 use Rattle.standard.proofs.StateLaws.{bytes-at, sixteen-state}
 use Rattle.standard.proofs.Rounds.{invCipher-cipher, cipher-invCipher}
@@ -50,3 +50,29 @@ module _ (κ : KeyKind) (keys block : List ℕ) where
   pub ciphered-deciphered : Bytes keys → State block → ciphered κ keys (deciphered κ keys block) ≡ block
   unfolding ciphered deciphered
   ciphered-deciphered k b = cipher-invCipher (rounds κ) (some-rounds κ) block w b (keyIn-states keys k)
+
+-- ---- round keys that agree up to the last give one cipher
+module _ (nr : ℕ) (block : List ℕ) (v v′ : ℕ → List ℕ) (same : (n : ℕ) → n ≤ nr → v n ≡ v′ n) where
+  same-after : (n : ℕ) → n ≤ nr → stateAfter n block v ≡ stateAfter n block v′
+  same-after zero h = ap (AddRoundKey block) (same 0 h)
+  same-after (suc n) h = ap₂ Round (same-after n (omega arith)) (same (suc n) h)
+
+  pub same-cipher : Cipher nr block v ≡ Cipher nr block v′
+  same-cipher = ap₂ (λ (st key : List ℕ). AddRoundKey (ShiftRows (SubBytes st)) key) (same-after (nr - 1) (omega arith)) (same nr (omega arith))
+
+  same-invAfter : (n : ℕ) → invStateAfter nr n block v ≡ invStateAfter nr n block v′
+  same-invAfter zero = ap (AddRoundKey block) (same nr (omega arith))
+  same-invAfter (suc n) = ap₂ (λ (st key : List ℕ). InvMixColumns (AddRoundKey (InvSubBytes (InvShiftRows st)) key)) (same-invAfter n) (same (nr - 1 - n) (omega arith))
+
+  pub same-invCipher : InvCipher nr block v ≡ InvCipher nr block v′
+  same-invCipher = ap₂ (λ (st key : List ℕ). AddRoundKey (InvSubBytes (InvShiftRows st)) key) (same-invAfter (nr - 1)) (same 0 (omega arith))
+
+-- ---- under the round keys of a key
+module _ (κ : KeyKind) (key keys block : List ℕ) (expanded : (n : ℕ) → n ≤ rounds κ → keyIn keys n ≡ roundKey κ key n) where
+  pub ciphered-encrypted : ciphered κ keys block ≡ encrypted κ key block
+  unfolding ciphered encrypted
+  ciphered-encrypted = same-cipher (rounds κ) block (keyIn keys) (roundKey κ key) expanded
+
+  pub deciphered-decrypted : deciphered κ keys block ≡ decrypted κ key block
+  unfolding deciphered decrypted
+  deciphered-decrypted = same-invCipher (rounds κ) block (keyIn keys) (roundKey κ key) expanded

@@ -6,3 +6,4 @@ pub mod KeyExpansion
 pub mod Kinds
 pub mod States
 pub mod Undoing
+pub mod Examples

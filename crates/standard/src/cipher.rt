@@ -2,8 +2,15 @@
 ghost use mathlib.Core.Path.{_≡_};
 ghost use Prim.Native.Nat.{ℕ, _<_};
 ghost use Rattle.standard.specs.Cipher.{Round, AddRoundKey, InvSubBytes, InvShiftRows, InvMixColumns};
-ghost use Rattle.standard.specs.Kinds.{aes128, keyIn, ciphered, deciphered};
-use crate::steps::{add_round_key, inv_mix_columns, inv_shift_rows, inv_sub_bytes, mix_columns, shift_rows, sub_bytes};
+ghost use Rattle.standard.specs.Kinds.{aes128, keyIn, ciphered, deciphered, encrypted, decrypted};
+use crate::expansion::key_expansion;
+use crate::steps::add_round_key;
+use crate::steps::inv_mix_columns;
+use crate::steps::inv_shift_rows;
+use crate::steps::inv_sub_bytes;
+use crate::steps::mix_columns;
+use crate::steps::shift_rows;
+use crate::steps::sub_bytes;
 
 fn key_in(keys: &[u8; 176], n: usize) -> [u8; 16]
     requires { ⌜ n < 11 ⌝ }
@@ -57,4 +64,20 @@ pub fn inv_cipher(block: &[u8; 16], keys: &[u8; 176]) -> [u8; 16]
     }
     let subbed = inv_sub_bytes(&inv_shift_rows(&state));
     add_round_key(&subbed, &key_in(keys, 0))
+}
+
+// The cipher of a block under a key, and that it comes back.
+pub fn encrypt(key: &[u8; 16], block: &[u8; 16]) -> [u8; 16]
+    ensures is { λ r. ⌜ r ≡ encrypted aes128 (now (key .entry)) (now (block .entry)) ⌝ }
+    ensures undone { λ r. ⌜ decrypted aes128 (now (key .entry)) r ≡ now (block .entry) ⌝ }
+{
+    cipher(block, &key_expansion(key))
+}
+
+// The inverse cipher of a block under a key, and that it comes back.
+pub fn decrypt(key: &[u8; 16], block: &[u8; 16]) -> [u8; 16]
+    ensures is { λ r. ⌜ r ≡ decrypted aes128 (now (key .entry)) (now (block .entry)) ⌝ }
+    ensures undone { λ r. ⌜ encrypted aes128 (now (key .entry)) r ≡ now (block .entry) ⌝ }
+{
+    inv_cipher(block, &key_expansion(key))
 }

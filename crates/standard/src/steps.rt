@@ -6,7 +6,9 @@ ghost use lib.ListN.{getD};
 ghost use Rattle.std.specs.Iters.{counting};
 ghost use Rattle.standard.specs.Cipher.{SubBytes, ShiftRows, MixColumns, AddRoundKey, InvSubBytes, InvShiftRows, InvMixColumns};
 ghost use Rattle.standard.specs.Columns.{entry, rowOf, byColumns};
-use crate::field::{inv_sbox, mul, sbox};
+use crate::field::inv_sbox;
+use crate::field::mul;
+use crate::field::sbox;
 
 pub fn sub_bytes(state: &[u8; 16]) -> [u8; 16]
     ensures { λ r. ⌜ r ≡ SubBytes (now (state .entry)) ⌝ }
@@ -63,15 +65,13 @@ fn entry(first: &[u8; 4], row: usize, column: usize) -> u8
 // Byte i of a state of which each column went through a matrix.
 fn column_byte(first: &[u8; 4], state: &[u8; 16], i: usize) -> u8
     requires { ⌜ i < 16 ⌝ }
-    ensures {
-        λ r. ⌜
-            r ≡ rowOf (now (first .entry)) (i % 4)
-                (getD (now (state .entry)) (4 * (i / 4)) 0)
-                (getD (now (state .entry)) (4 * (i / 4) + 1) 0)
-                (getD (now (state .entry)) (4 * (i / 4) + 2) 0)
-                (getD (now (state .entry)) (4 * (i / 4) + 3) 0)
-        ⌝
-    }
+    ensures { λ r. ⌜
+        r ≡ rowOf (now (first .entry)) (i % 4)
+        (getD (now (state .entry)) (4 * (i / 4)) 0)
+        (getD (now (state .entry)) (4 * (i / 4) + 1) 0)
+        (getD (now (state .entry)) (4 * (i / 4) + 2) 0)
+        (getD (now (state .entry)) (4 * (i / 4) + 3) 0)
+        ⌝ }
 {
     let row = i % 4;
     let at = 4 * (i / 4);

@@ -1,4 +1,5 @@
 // What is shown of the standard's cipher and key expansion as a whole.
+ghost use Rattle.standard.specs.Examples.{ExamplesStand};
 ghost use Rattle.standard.specs.Undoing.{InvCipherUndoesCipher, CipherUndoesInvCipher, DecryptedUndoesEncrypted, EncryptedUndoesDecrypted, CiphersGiveStates, WordsExpand, RoundKeysAreBytes};
 
 // Under any round keys and for any number of rounds.
@@ -21,4 +22,9 @@ pub fn ciphers_give_states()
 pub fn expansion_stands()
     ensures words { λ _. ⌜ WordsExpand ⌝ }
     ensures bytes { λ _. ⌜ RoundKeysAreBytes ⌝ }
+{}
+
+// The definitions give the standard's own examples.
+pub fn examples_stand()
+    ensures { λ _. ⌜ ExamplesStand ⌝ }
 {}

@@ -23,6 +23,7 @@ pub returns : need.returns
 returns c =
     let keys = c .args .keys .now in
     let block = c .args .block .now in
-    record
-      { is = is c
-      ; undone = ap (deciphered aes128 keys) (is c) ∙ deciphered-ciphered aes128 keys block (bytes-from keys (c .fits-keys)) (c .told-block, bytes-from block (c .fits-block)) }
+    record {
+      is = is c;
+      undone = ap (deciphered aes128 keys) (is c) ∙ deciphered-ciphered aes128 keys block (bytes-from keys (c .fits-keys)) (c .told-block, bytes-from block (c .fits-block));
+    }
