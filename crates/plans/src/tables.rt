@@ -2,6 +2,7 @@
 ghost use mathlib.Core.Path.{_≡_};
 ghost use Prim.Native.Nat.{ℕ, _≤_};
 ghost use Rattle.standard.specs.Kinds.{aes128};
+ghost use Rattle.plans.specs.Layout.{room};
 ghost use Rattle.plans.specs.Pages.{ownInverter};
 ghost use Rattle.plans.specs.Plays.{planGates};
 ghost use Rattle.plans.specs.Plans.{sealPlan, schedulePlan, openPlan};
@@ -1322,4 +1323,11 @@ pub fn open_gates() -> u32
     ensures bound { λ r. ⌜ r ≤ 60000 ⌝ }
 {
     27_324
+}
+
+// The registers that a bench needs at least.
+pub fn least_registers() -> u16
+    ensures { λ r. ⌜ r ≡ room aes128 ⌝ }
+{
+    2_048
 }

@@ -1,0 +1,42 @@
+-- The byte that eight registers show. Assumes nothing.
+use mathlib.Core.Path.{_≡_, refl, sym, ap, ap₂, _∙_, subst}
+use mathlib.Core.Bool.{Bool, true, false, cond}
+use mathlib.Core.List.{List, [], _∷_, _++_, map}
+use Prim.Native.Nat.{ℕ, zero, suc, _+_, _-_, _*_, _/_, _%_, _^_, _<_, _≤_}
+use native.Mathlib.Omega.{arith}
+use lib.Dec.{eqb}
+use lib.ListN.{getD, length}
+use lib.Lanes.{maskL}
+use Rattle.std.specs.Iters.{counting}
+use Rattle.std.proofs.shelf.Lanes.{bit-maskL, maskL-lt}
+use Rattle.std.proofs.shelf.Counted.{getD-map-counting}
+use Rattle.standard.specs.Bits.{bit, odd}
+use Rattle.circuit.specs.Lanes.{Lane}
+use Rattle.circuit.specs.Places.{byteAt}
+use Rattle.circuit.proofs.Tests256.{tests, equal-below}
+
+pub byteAt-small : (σ : Lane) (base : ℕ) → byteAt σ base < 256
+unfolding byteAt
+byteAt-small σ base = maskL-lt (map (λ i. σ (base + i)) (counting 0 8))
+
+is-one : (b : Bool) → eqb (cond b 1 0) 1 ≡ b
+is-one true = refl
+is-one false = refl
+
+pub byteAt-bit : (σ : Lane) (base i : ℕ) → i < 8 → bit (byteAt σ base) i ≡ σ (base + i)
+unfolding byteAt bit
+byteAt-bit σ base i h =
+    let ms = map (λ i. σ (base + i)) (counting 0 8) in
+    ap (λ (x : ℕ). eqb x 1) (bit-maskL ms i) ∙ is-one (getD ms i false) ∙ getD-map-counting (λ i. σ (base + i)) 0 8 i i false h (omega arith)
+
+pub map-below : {A : Type 0} (f g : ℕ → A) (a n : ℕ) → ((j : ℕ) → a ≤ j → j < a + n → f j ≡ g j) → map f (counting a n) ≡ map g (counting a n)
+map-below f g a zero e = refl
+map-below {A} f g a (suc n) e = ap₂ {C = List A} (λ x xs. x ∷ xs) (e a (omega arith) (omega arith)) (map-below f g (a + 1) n (λ j lo hi. e j (omega arith) (omega arith)))
+
+rebuilt : (v : ℕ) → v < 256 → maskL (map (bit v) (counting 0 8)) ≡ v
+unfolding tests bit
+rebuilt = equal-below (λ v. maskL (map (bit v) (counting 0 8))) (λ v. v) 256 tt
+
+pub byteAt-is : (σ : Lane) (base v : ℕ) → v < 256 → ((i : ℕ) → i < 8 → σ (base + i) ≡ bit v i) → byteAt σ base ≡ v
+unfolding byteAt
+byteAt-is σ base v h e = ap maskL (map-below (λ i. σ (base + i)) (bit v) 0 8 (λ i lo hi. e i hi)) ∙ rebuilt v h
