@@ -1,2 +1,5 @@
 pub mod Scans
 pub mod Settled
+pub mod Bytes
+pub mod Ciphers
+pub mod Planned

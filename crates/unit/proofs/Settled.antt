@@ -99,3 +99,14 @@ span-accepted m base n lane h k =
     let p = le-leb (base + n) (m .registers) h in
     let q = lt-ltb lane (m .lanes) k in
     rw (p, q)
+
+-- a refusal by the questions, and the size that they tell
+pub refused : {X : Type 0} (x : X) (o : Option Fault) (f : Fault) → Err f ≡ given x o → o ≡ Some f
+refused x None f e = let z : _≡_ {A = ℕ} 0 1 = cc in absurd (omega arith)
+refused x (Some g) f e = cc
+
+pub scheduling-fits : (s : Shape) → scheduling s ≡ None → fits s ≡ true
+scheduling-fits s e = asked-yes (fits s) _ _ e .0
+
+pub working-fits : (s : Shape) (cost : ℕ) → working s cost ≡ None → fits s ≡ true
+working-fits s cost e = asked-yes (fits s) _ _ e .0

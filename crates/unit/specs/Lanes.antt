@@ -6,43 +6,57 @@
 --   Expanded            scheduling: the standard's round keys of the key, in every lane
 --   Enciphered          sealing: the standard's cipher of the block under the round keys shown, in every lane
 --   Deciphered          opening: the inverse cipher
-use Prim.Native.Nat.{ℕ, _+_, _*_, _<_, _≤_}
+--   Staged              after stage n of a sealing: the coordinates of the standard's state after round n
+use Prim.Native.Nat.{ℕ, _<_, _≤_}
 use mathlib.Core.Path.{_≡_}
-use mathlib.Core.Bool.{Bool, cond, _||_}
 use mathlib.Core.List.{List, map}
-use lib.Dec.{eqb}
-use Rattle.std.specs.Iters.{counting}
-use Rattle.standard.specs.Cipher.{Cipher, InvCipher}
-use Rattle.standard.specs.Kinds.{rounds, roundKey}
-use Rattle.coordinates.specs.Coordinates.{fromCoordinates}
+use Rattle.std.specs.declared.option.Option.{Option}
+use Rattle.std.specs.declared.option.Option.the-variants.{Some, None}
+use Rattle.standard.specs.Cipher.{stateAfter, Cipher, InvCipher}
+use Rattle.standard.specs.Kinds.{rounds, roundKey, sixteen}
+use Rattle.coordinates.specs.Coordinates.{toCoordinates}
 use Rattle.bench.specs.Model.{Model}
-use Rattle.lane.specs.Spans.{byteOf, shownAt}
-use Rattle.unit.specs.Works.{kind}
+use Rattle.bench.specs.declared.faults.Fault.{Fault}
+use Rattle.plans.specs.Plans.{stagesTo, sealPlan, openPlan}
+use Rattle.circuit.specs.Lanes.{laneOf}
+use Rattle.circuit.specs.Claims.{stateOf as stateIn, keysOf, keyIn}
+use Rattle.unit.specs.Works.{kind, worked}
 
 abbrev pub stateOf : Model → ℕ → List ℕ
-stateOf m l = shownAt m 0 l 16
+stateOf m l = stateIn (laneOf m l)
 
 abbrev pub keyOf : Model → ℕ → List ℕ
-keyOf m l = shownAt m 128 l 16
-
--- the byte that eight registers of round key n stand for
-abbrev pub keyByte : ℕ → ℕ → ℕ
-keyByte n v = cond (eqb n 0 || eqb n (rounds kind)) v (fromCoordinates v)
+keyOf m l = sixteen (keyIn kind (laneOf m l))
 
 abbrev pub roundShown : Model → ℕ → ℕ → List ℕ
-roundShown m l n = map (λ j. keyByte n (byteOf (λ r. m .bit r l) (128 * (n + 1) + 8 * j))) (counting 0 16)
+roundShown m l = keysOf kind (laneOf m l)
 
--- the round keys and the key stay
+-- the key and the round keys stay
 pub record KeysStay (m m′ : Model) (l : ℕ) : Type 0 where
   pub key : keyOf m′ l ≡ keyOf m l
   pub all : (n : ℕ) → n ≤ rounds kind → roundShown m′ l n ≡ roundShown m l n
 
-abbrev pub Expanded : Model → Model → Type 0
-Expanded m m′ = (l : ℕ) → l < m .lanes
-    → ((n : ℕ) → n ≤ rounds kind → roundShown m′ l n ≡ roundKey kind (keyOf m l) n) × (stateOf m′ l ≡ stateOf m l) × (keyOf m′ l ≡ keyOf m l)
+pub record Expanded (m m′ : Model) (l : ℕ) : Type 0 where
+  pub all : (n : ℕ) → n ≤ rounds kind → roundShown m′ l n ≡ roundKey kind (keyOf m l) n
+  pub state : stateOf m′ l ≡ stateOf m l
+  pub key : keyOf m′ l ≡ keyOf m l
 
-abbrev pub Enciphered : Model → Model → Type 0
-Enciphered m m′ = (l : ℕ) → l < m .lanes → (stateOf m′ l ≡ Cipher (rounds kind) (stateOf m l) (roundShown m l)) × KeysStay m m′ l
+-- the opening's plan would bring the block back
+pub record Enciphered (m m′ : Model) (l : ℕ) : Type 0 where
+  pub state : stateOf m′ l ≡ Cipher (rounds kind) (stateOf m l) (roundShown m l)
+  pub keys : KeysStay m m′ l
+  pub undone : stateOf (worked (openPlan kind) m′) l ≡ stateOf m l
 
-abbrev pub Deciphered : Model → Model → Type 0
-Deciphered m m′ = (l : ℕ) → l < m .lanes → (stateOf m′ l ≡ InvCipher (rounds kind) (stateOf m l) (roundShown m l)) × KeysStay m m′ l
+-- the sealing's plan would bring the block back
+pub record Deciphered (m m′ : Model) (l : ℕ) : Type 0 where
+  pub state : stateOf m′ l ≡ InvCipher (rounds kind) (stateOf m l) (roundShown m l)
+  pub keys : KeysStay m m′ l
+  pub undone : stateOf (worked (sealPlan kind) m′) l ≡ stateOf m l
+
+abbrev pub Staged : Model → ℕ → Type 0
+Staged m l = (n : ℕ) → n < rounds kind → stateOf (worked (stagesTo kind n) m) l ≡ map toCoordinates (stateAfter n (stateOf m l) (roundShown m l))
+
+-- P of every lane, where a call was accepted
+abbrev pub EveryLane : Option Fault → Model → (ℕ → Type 0) → Type 0
+EveryLane None m P = (l : ℕ) → l < m .lanes → P l
+EveryLane (Some f) m P = Unit {0}

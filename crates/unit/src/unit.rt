@@ -8,15 +8,18 @@ ghost use lib.ListN.{length, getD};
 ghost use Rattle.std.specs.declared.option.Option.the-variants.{None};
 ghost use Rattle.standard.specs.Kinds.{keyBytes};
 ghost use Rattle.bench.specs.declared.faults.Question.the-variants.{Size, Gates};
-ghost use Rattle.lane.specs.Spans.{shownAt};
 ghost use Rattle.unit.specs.Records.{empty, lowestUnready};
 ghost use Rattle.unit.specs.Works.{kind, K, S, O};
-ghost use Rattle.unit.specs.View.{made, keyPlaced, blockPlaced, cleared};
+ghost use Rattle.unit.specs.View.{made, keyPlaced, blockPlaced, cleared, scheduled, sealed, opened};
 ghost use Rattle.unit.specs.Held.{meaning, view, shapeOf};
+ghost use Rattle.unit.specs.Lanes.{stateOf, Expanded, Enciphered, Deciphered, Staged, EveryLane};
 ghost use Rattle.unit.specs.Answers.{unitFault, ask, fits, enough, naming, placing, reading, scheduling, working, given, settled};
 use crate::records::KeyState;
 use crate::records::LaneRecord;
 use crate::table::LaneTable;
+use cipher::calls::open_all;
+use cipher::calls::schedule_all;
+use cipher::calls::seal_all;
 use bench::benches::Bench;
 use bench::faults::Fault;
 use bench::faults::Part;
@@ -199,10 +202,43 @@ impl<B: Bench> CipherUnit<B> {
         Ok(())
     }
 
+    // Runs the scheduling's plan; every placed key becomes scheduled.
+    pub fn schedule(&mut self) -> Result<(), Fault>
+        ensures answer { λ r. ⌜ r ≡ given tt (scheduling (shapeOf B·Bench (now (self .entry)))) ⌝ }
+        ensures after { λ _. ⌜ view B·Bench (now (self .exit)) ≡ settled (scheduling (shapeOf B·Bench (now (self .entry)))) (scheduled (view B·Bench (now (self .entry)))) (view B·Bench (now (self .entry))) ⌝ }
+        ensures expanded { λ _. ⌜ EveryLane (scheduling (shapeOf B·Bench (now (self .entry)))) (view B·Bench (now (self .entry)) .model) (Expanded (view B·Bench (now (self .entry)) .model) (view B·Bench (now (self .exit)) .model)) ⌝ }
+    {
+        self.may_schedule()?;
+        schedule_all(&mut self.bench)?;
+        self.table.schedule();
+        Ok(())
+    }
+
+    // Runs the sealing's plan in all lanes.
+    pub fn seal(&mut self) -> Result<(), Fault>
+        ensures answer { λ r. ⌜ r ≡ given tt (working (shapeOf B·Bench (now (self .entry))) S) ⌝ }
+        ensures after { λ _. ⌜ view B·Bench (now (self .exit)) ≡ settled (working (shapeOf B·Bench (now (self .entry))) S) (sealed (view B·Bench (now (self .entry)))) (view B·Bench (now (self .entry))) ⌝ }
+        ensures enciphered { λ _. ⌜ EveryLane (working (shapeOf B·Bench (now (self .entry))) S) (view B·Bench (now (self .entry)) .model) (Enciphered (view B·Bench (now (self .entry)) .model) (view B·Bench (now (self .exit)) .model)) ⌝ }
+        ensures staged { λ _. ⌜ EveryLane (working (shapeOf B·Bench (now (self .entry))) S) (view B·Bench (now (self .entry)) .model) (Staged (view B·Bench (now (self .entry)) .model)) ⌝ }
+    {
+        self.may_work(seal_gates())?;
+        seal_all(&mut self.bench)
+    }
+
+    // Runs the opening's plan in all lanes.
+    pub fn open(&mut self) -> Result<(), Fault>
+        ensures answer { λ r. ⌜ r ≡ given tt (working (shapeOf B·Bench (now (self .entry))) O) ⌝ }
+        ensures after { λ _. ⌜ view B·Bench (now (self .exit)) ≡ settled (working (shapeOf B·Bench (now (self .entry))) O) (opened (view B·Bench (now (self .entry)))) (view B·Bench (now (self .entry))) ⌝ }
+        ensures deciphered { λ _. ⌜ EveryLane (working (shapeOf B·Bench (now (self .entry))) O) (view B·Bench (now (self .entry)) .model) (Deciphered (view B·Bench (now (self .entry)) .model) (view B·Bench (now (self .exit)) .model)) ⌝ }
+    {
+        self.may_work(open_gates())?;
+        open_all(&mut self.bench)
+    }
+
     // Reads the lane's state into the buffer, and keeps the block.
     pub fn read(&self, lane: usize, buffer: &mut [u8]) -> Result<(), Fault>
         ensures answer { λ r. ⌜ r ≡ given tt (reading (shapeOf B·Bench (now (self .entry))) lane (length (now (buffer .entry)))) ⌝ }
-        ensures bytes { λ _. ⌜ now (buffer .exit) ≡ settled (reading (shapeOf B·Bench (now (self .entry))) lane (length (now (buffer .entry)))) (shownAt (view B·Bench (now (self .entry)) .model) 0 lane 16) (now (buffer .entry)) ⌝ }
+        ensures bytes { λ _. ⌜ now (buffer .exit) ≡ settled (reading (shapeOf B·Bench (now (self .entry))) lane (length (now (buffer .entry)))) (stateOf (view B·Bench (now (self .entry)) .model) lane) (now (buffer .entry)) ⌝ }
     {
         self.may_read(lane, buffer.len())?;
         read_bytes(&self.bench, STATE, lane as u16, buffer)

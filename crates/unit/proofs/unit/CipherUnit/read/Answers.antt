@@ -9,6 +9,7 @@ use Rattle.lane.specs.Spans.{shownAt}
 use Rattle.unit.specs.Held.{meaning, view, shapeOf}
 use Rattle.unit.specs.Answers.{reading, given}
 use Rattle.unit.proofs.Settled.{stays, becomes, accepted, reading-tells, span-accepted}
+use Rattle.unit.proofs.Bytes.{shown-state}
 use Rattle.unit.proofs.unit.CipherUnit.read.Needs as need
 
 pub returns-in-Break-may-read : need.returns-in-Break-may-read
@@ -29,5 +30,6 @@ returns g c =
       bytes = becomes tt tt question _ _ _ said
           (c .read-bytes .ensures .bytes
           ∙ ap (λ r. after r (shownAt m 0 (c .args .lane) (length buffer)) buffer) ok
-          ∙ ap (shownAt m 0 (c .args .lane)) (told .2));
+          ∙ ap (shownAt m 0 (c .args .lane)) (told .2)
+        ∙ shown-state m (c .args .lane));
     }
