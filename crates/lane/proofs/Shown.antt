@@ -48,7 +48,7 @@ byteOf-is σ base v h e = ap maskL (map-below (λ i. σ (base + i)) (bit v) 0 8 
 pub shown-same : (m m′ : Model) (base l n : ℕ) → ((r : ℕ) → base ≤ r → r < base + 8 * n → m .bit r l ≡ m′ .bit r l) → shownAt m base l n ≡ shownAt m′ base l n
 shown-same m m′ base l n e =
     map-below (λ j. byteOf (λ r. m .bit r l) (base + 8 * j)) (λ j. byteOf (λ r. m′ .bit r l) (base + 8 * j)) 0 n
-      (λ j lo hi. byteOf-same (λ r. m .bit r l) (λ r. m′ .bit r l) (base + 8 * j) (λ i h. e (base + 8 * j + i) (omega arith) (omega arith)))
+    (λ j lo hi. byteOf-same (λ r. m .bit r l) (λ r. m′ .bit r l) (base + 8 * j) (λ i h. e (base + 8 * j + i) (omega arith) (omega arith)))
 
 -- a bit outside what was laid
 pub laid-other : (base n lane : ℕ) (f : ℕ → Bool) (m : Model) (r l : ℕ) → (l ≡ lane → ⊥) → laid base n lane f m .bit r l ≡ m .bit r l
@@ -81,11 +81,11 @@ laid-shown base lane bytes m small =
     let m′ : Model = laid base (8 * n) lane (bitsOf bytes) m in
     let σ : ℕ → Bool = λ r. m′ .bit r lane in
     let one : (j : ℕ) → j < n → byteOf σ (base + 8 * j) ≡ getD bytes j 0 = λ j h.
-      byteOf-is σ (base + 8 * j) (getD bytes j 0) (small j) (λ i k.
-        let at : base + 8 * j + i - base ≡ 8 * j + i = omega arith in
-        let q : (8 * j + i) / 8 ≡ j = omega arith in
-        let r : (8 * j + i) % 8 ≡ i = omega arith in
-        laid-inside base (8 * n) lane (bitsOf bytes) m (base + 8 * j + i) (omega arith) (omega arith)
-        ∙ ap (bitsOf bytes) at ∙ ap₂ (λ x y. bit (getD bytes x 0) y) q r) in
+    byteOf-is σ (base + 8 * j) (getD bytes j 0) (small j) (λ i k.
+    let at : base + 8 * j + i - base ≡ 8 * j + i = omega arith in
+    let q : (8 * j + i) / 8 ≡ j = omega arith in
+    let r : (8 * j + i) % 8 ≡ i = omega arith in
+    laid-inside base (8 * n) lane (bitsOf bytes) m (base + 8 * j + i) (omega arith) (omega arith)
+    ∙ ap (bitsOf bytes) at ∙ ap₂ (λ x y. bit (getD bytes x 0) y) q r) in
     map-below (λ j. byteOf σ (base + 8 * j)) (λ j. getD bytes j 0) 0 n (λ j lo hi. one j (omega arith))
     ∙ sym (fill-by-all (λ j. getD bytes j 0) bytes n 0 refl (λ k h. refl))

@@ -12,12 +12,12 @@ use Rattle.std.proofs.shelf.Lists.{length-set, length-map, length-replicate, ge
 use Rattle.std.proofs.shelf.Tests.{eq-eqb, ne-eqb, cases-eq, cases-lt, true≢false, false≢true}
 use Rattle.std.specs.declared.option.Option.{Option}
 use Rattle.std.specs.declared.option.Option.the-variants.{Some, None}
-use Rattle.standard.specs.Cipher.{Cipher, InvCipher, stateAfter, invStateAfter, AddRoundKey, Round, ShiftRows, SubBytes, InvShiftRows, InvSubBytes, InvMixColumns}
+use Rattle.standard.specs.Cipher.{Cipher, InvCipher}
 use Rattle.standard.specs.Kinds.{rounds, roundKey, encrypted, decrypted, keyBytes}
 use Rattle.bench.specs.declared.faults.Fault.{Fault}
 use Rattle.bench.specs.Model.{Model, Memory}
-use Rattle.lane.specs.Spans.{byteOf, shownAt, laid, bitsOf, zeroed}
-use Rattle.lane.proofs.Shown.{map-below, byteOf-same, shown-same, laid-other, laid-outside, laid-shown}
+use Rattle.lane.specs.Spans.{shownAt, laid, bitsOf, zeroed}
+use Rattle.lane.proofs.Shown.{laid-other, laid-outside, laid-shown}
 use Rattle.plans.specs.Plans.{schedulePlan, sealPlan, openPlan}
 use Rattle.plans.specs.Pages.{ownInverter}
 use Rattle.unit.specs.declared.records.KeyState.{KeyState}
@@ -26,36 +26,15 @@ use Rattle.unit.specs.declared.records.LaneRecord.{LaneRecord}
 use Rattle.unit.specs.Records.{empty, promoted, promotes, isScheduled, unready, lowestUnready, lowestFrom}
 use Rattle.unit.specs.Works.{kind, worked, K, S, O}
 use Rattle.unit.specs.View.{View, Shape, shape, made}
-use Rattle.unit.specs.Lanes.{stateOf, keyOf, keyByte, roundShown, Expanded, Enciphered, Deciphered}
+use Rattle.unit.specs.Lanes.{stateOf, keyOf, roundShown}
 use Rattle.unit.specs.Answers.{settled}
+use Rattle.unit.proofs.Bytes.{shown-state, shown-key, same-state, same-key, same-rounds}
+use Rattle.unit.proofs.Ciphers.{same-cipher, same-inv-cipher}
+use Rattle.unit.proofs.Planned.{planned-lanes, plan-expands, plan-enciphers, plan-deciphers}
 use Rattle.unit.proofs.Settled.{naming-tells, placing-tells, reading-tells, scheduling-tells, working-tells}
 use Rattle.law.specs.Calls.{Asked, place-key, place-block, clear, schedule, seal, unseal, read, counts, left, record-of, unready as unready-lane, accepted, told, answered, answer, refusal, performed, next, done, filled}
+pub use Rattle.law.specs.Sound.{Sound, AllSound}
 use Rattle.law.specs.Book.{Page, Book, blank, through, turned, wrote, entered}
-use Rattle.law.proofs.Planned.{planned-lanes}
-
--- what the three plans do to the bytes of the lanes
-pub record PlansDo : Type 0 where
-  pub schedules : (m : Model) → Expanded m (worked (schedulePlan kind) m)
-  pub seals : (m : Model) → Enciphered m (worked (sealPlan kind) m)
-  pub opens : (m : Model) → Deciphered m (worked (openPlan kind) m)
-
--- what a placing brings are bytes
-abbrev pub Sound : Asked → Type 0
-Sound (place-key l bs) = (j : ℕ) → getD bs j 0 < 256
-Sound (place-block l bs) = (j : ℕ) → getD bs j 0 < 256
-Sound (clear l) = Unit {0}
-Sound schedule = Unit {0}
-Sound seal = Unit {0}
-Sound unseal = Unit {0}
-Sound (read l bs) = Unit {0}
-Sound counts = Unit {0}
-Sound left = Unit {0}
-Sound (record-of l) = Unit {0}
-Sound unready-lane = Unit {0}
-
-abbrev pub AllSound : List Asked → Type 0
-AllSound [] = Unit {0}
-AllSound (x ∷ xs) = Sound x × AllSound xs
 
 -- ---- the invariant
 
@@ -105,20 +84,15 @@ changed : (rs : List LaneRecord) (lane l : ℕ) (r : LaneRecord) (P : LaneRecord
 changed rs lane l r P lt here other =
     ⊎-elim
     (λ e.
-        let same : getD (set rs lane r) l empty ≡ r = ap (λ n. getD (set rs lane r) n empty) e ∙ getD-set-same rs lane r empty lt in
-        let A : LaneRecord → Type 0 = λ x. P x (eqb l lane) in
-        subst A (sym same) (subst (P r) (sym (eq-eqb l lane e)) (here e)))
+    let same : getD (set rs lane r) l empty ≡ r = ap (λ n. getD (set rs lane r) n empty) e ∙ getD-set-same rs lane r empty lt in
+    let A : LaneRecord → Type 0 = λ x. P x (eqb l lane) in
+    subst A (sym same) (subst (P r) (sym (eq-eqb l lane e)) (here e)))
     (λ ne.
-        let A : LaneRecord → Type 0 = λ x. P x (eqb l lane) in
-        subst A (sym (getD-set-other rs lane l r empty ne)) (subst (P (getD rs l empty)) (sym (ne-eqb l lane ne)) (other ne)))
+    let A : LaneRecord → Type 0 = λ x. P x (eqb l lane) in
+    subst A (sym (getD-set-other rs lane l r empty ne)) (subst (P (getD rs l empty)) (sym (ne-eqb l lane ne)) (other ne)))
     (cases-eq l lane)
 
 -- ---- what one lane holds is a matter of its bytes
-
-same-rounds : (m m′ : Model) (l : ℕ) → ((r : ℕ) → 128 ≤ r → r < 1536 → m .bit r l ≡ m′ .bit r l) → (n : ℕ) → n ≤ rounds kind → roundShown m l n ≡ roundShown m′ l n
-same-rounds m m′ l e n h =
-    map-below (λ j. keyByte n (byteOf (λ r. m .bit r l) (128 * (n + 1) + 8 * j))) (λ j. keyByte n (byteOf (λ r. m′ .bit r l) (128 * (n + 1) + 8 * j))) 0 16
-      (λ j lo hi. ap (keyByte n) (byteOf-same (λ r. m .bit r l) (λ r. m′ .bit r l) (128 * (n + 1) + 8 * j) (λ i k. e (128 * (n + 1) + 8 * j + i) (omega arith) (omega arith))))
 
 key-moved : (k : KeyState) (key key′ : List ℕ) (w w′ : ℕ → List ℕ) (p : Option (List ℕ)) → key ≡ key′ → ((n : ℕ) → n ≤ rounds kind → w n ≡ w′ n) → HoldsKey k key w p → HoldsKey k key′ w′ p
 key-moved Absent key key′ w w′ p e f h = tt
@@ -132,32 +106,16 @@ block-moved false st st′ p e h = tt
 -- a lane whose key registers show the same
 key-kept : (k : KeyState) (m m′ : Model) (l : ℕ) (p : Option (List ℕ)) → ((r : ℕ) → 128 ≤ r → r < 1536 → m .bit r l ≡ m′ .bit r l) → HoldsKey k (keyOf m l) (roundShown m l) p → HoldsKey k (keyOf m′ l) (roundShown m′ l) p
 key-kept k m m′ l p e h =
-    key-moved k (keyOf m l) (keyOf m′ l) (roundShown m l) (roundShown m′ l) p (shown-same m m′ 128 l 16 (λ r lo hi. e r lo (omega arith))) (same-rounds m m′ l e) h
+    key-moved k (keyOf m l) (keyOf m′ l) (roundShown m l) (roundShown m′ l) p (same-key m m′ l (λ r lo hi. e r lo (omega arith))) (same-rounds m m′ l e) h
 
 block-kept : (t : Bool) (m m′ : Model) (l : ℕ) (p : Option (List ℕ)) → ((r : ℕ) → r < 128 → m .bit r l ≡ m′ .bit r l) → HoldsBlock t (stateOf m l) p → HoldsBlock t (stateOf m′ l) p
-block-kept t m m′ l p e h = block-moved t (stateOf m l) (stateOf m′ l) p (shown-same m m′ 0 l 16 (λ r lo hi. e r (omega arith))) h
+block-kept t m m′ l p e h = block-moved t (stateOf m l) (stateOf m′ l) p (same-state m m′ l e) h
 
 -- another lane than the one laid
 lane-kept : (base n lane : ℕ) (f : ℕ → Bool) (r : LaneRecord) (m : Model) (l : ℕ) (p : Page) → (l ≡ lane → ⊥) → HoldsAt r m l p → HoldsAt r (laid base n lane f m) l p
 lane-kept base n lane f r m l p ne h =
     let e : (r : ℕ) → m .bit r l ≡ laid base n lane f m .bit r l = λ r. sym (laid-other base n lane f m r l ne) in
     (key-kept (r .key) m (laid base n lane f m) l (p .key) (λ r lo hi. e r) (h .0), block-kept (r .block) m (laid base n lane f m) l (p .block) (λ r hi. e r) (h .1))
-
--- ---- the ciphers under round keys that are equal up to the last
-
-same-after : (n : ℕ) (block : List ℕ) (w w′ : ℕ → List ℕ) → ((k : ℕ) → k ≤ n → w k ≡ w′ k) → stateAfter n block w ≡ stateAfter n block w′
-same-after zero block w w′ e = ap (AddRoundKey block) (e 0 (omega arith))
-same-after (suc n) block w w′ e = ap₂ Round (same-after n block w w′ (λ k h. e k (omega arith))) (e (suc n) (omega arith))
-
-same-cipher : (block : List ℕ) (w w′ : ℕ → List ℕ) → ((n : ℕ) → n ≤ rounds kind → w n ≡ w′ n) → Cipher (rounds kind) block w ≡ Cipher (rounds kind) block w′
-same-cipher block w w′ e = ap₂ (λ st k. AddRoundKey (ShiftRows (SubBytes st)) k) (same-after 9 block w w′ (λ k h. e k (omega arith))) (e 10 (omega arith))
-
-same-inv-after : (n : ℕ) (block : List ℕ) (w w′ : ℕ → List ℕ) → ((k : ℕ) → k ≤ 10 → w k ≡ w′ k) → invStateAfter 10 n block w ≡ invStateAfter 10 n block w′
-same-inv-after zero block w w′ e = ap (AddRoundKey block) (e 10 (omega arith))
-same-inv-after (suc n) block w w′ e = ap₂ (λ st k. InvMixColumns (AddRoundKey (InvSubBytes (InvShiftRows st)) k)) (same-inv-after n block w w′ e) (e (9 - n) (omega arith))
-
-same-inv-cipher : (block : List ℕ) (w w′ : ℕ → List ℕ) → ((n : ℕ) → n ≤ rounds kind → w n ≡ w′ n) → InvCipher (rounds kind) block w ≡ InvCipher (rounds kind) block w′
-same-inv-cipher block w w′ e = ap₂ (λ st k. AddRoundKey (InvSubBytes (InvShiftRows st)) k) (same-inv-after 9 block w w′ e) (e 0 (omega arith))
 
 -- ---- one call
 
@@ -214,94 +172,98 @@ enter-one (Some f) s bs a b l = refl
 pub entered-is : (v : View) (a : Asked) (b : Book) (l : ℕ) → entered b (performed v a) l ≡ settled (refusal (shape v) a) (wrote b a l) (b l)
 entered-is v a b l = enter-one (refusal (shape v) a) (shape v) _ a b l
 
-module _ (facts : PlansDo) where
-  pub done-holds : (v : View) (b : Book) (a : Asked) → Sound a → refusal (shape v) a ≡ None → Holds v b → Holds (done v a) (wrote b a)
-  unfolding laid
-  done-holds v b (place-key lane bs) sound e h =
-      let t = placing-tells (keyBytes kind) (shape v) lane (length bs) e in
-      let m′ : Model = laid 128 (8 * length bs) lane (bitsOf bs) (v .model) in
-      let n : 8 * length bs ≡ 128 = omega (arith, t .2) in
-      record {
-        size = length-set (v .records) lane _ ∙ h .size;
-        lane = λ l lt.
-            let P : LaneRecord → Bool → Type 0 = λ r y. HoldsAt r m′ l (cond y (record { key = Some bs; block = b l .block }) (b l)) in
-            changed (v .records) lane l _ P (within v b lane h (t .1) (t .0 .few))
-            (λ q.
-                ( ap Some (sym (laid-sixteen 128 lane l bs (v .model) q (t .2) sound))
-                , block-kept (getD (v .records) lane empty .block) (v .model) m′ l (b l .block) (λ r hi. sym (laid-outside 128 (8 * length bs) lane (bitsOf bs) (v .model) r l (inl hi)))
-                    (subst (λ (r : LaneRecord). HoldsBlock (r .block) (stateOf (v .model) l) (b l .block)) (ap (λ n. getD (v .records) n empty) q) (h .lane l lt .1)) ))
-            (λ ne. lane-kept 128 (8 * length bs) lane (bitsOf bs) _ (v .model) l (b l) ne (h .lane l lt));
-      }
-  done-holds v b (place-block lane bs) sound e h =
-      let t = placing-tells 16 (shape v) lane (length bs) e in
-      let m′ : Model = laid 0 (8 * length bs) lane (bitsOf bs) (v .model) in
-      record {
-        size = length-set (v .records) lane _ ∙ h .size;
-        lane = λ l lt.
-            let P : LaneRecord → Bool → Type 0 = λ r y. HoldsAt r m′ l (cond y (record { key = b l .key; block = Some bs }) (b l)) in
-            changed (v .records) lane l _ P (within v b lane h (t .1) (t .0 .few))
-            (λ q.
-                ( key-kept (getD (v .records) lane empty .key) (v .model) m′ l (b l .key) (λ r lo hi. sym (laid-outside 0 (8 * length bs) lane (bitsOf bs) (v .model) r l (inr (omega (arith, t .2)))))
-                    (subst (λ (r : LaneRecord). HoldsKey (r .key) (keyOf (v .model) l) (roundShown (v .model) l) (b l .key)) (ap (λ n. getD (v .records) n empty) q) (h .lane l lt .0))
-                , ap Some (sym (laid-sixteen 0 lane l bs (v .model) q (t .2) sound)) ))
-            (λ ne. lane-kept 0 (8 * length bs) lane (bitsOf bs) _ (v .model) l (b l) ne (h .lane l lt));
-      }
-  done-holds v b (clear lane) sound e h =
-      let t = naming-tells (shape v) lane e in
-      record {
-        size = length-set (v .records) lane _ ∙ h .size;
-        lane = λ l lt.
-            let P : LaneRecord → Bool → Type 0 = λ r y. HoldsAt r (zeroed 1536 lane (v .model)) l (cond y (record { key = None; block = None }) (b l)) in
-            changed (v .records) lane l _ P (within v b lane h (t .1) (t .0 .few)) (λ q. (tt, tt)) (λ ne. lane-kept 0 1536 lane (λ i. false) _ (v .model) l (b l) ne (h .lane l lt));
-      }
-  done-holds v b schedule sound e h =
-      let t = scheduling-tells (shape v) e in
-      let m′ : Model = worked (schedulePlan kind) (v .model) in
-      record {
-        size = length-map (v .records) promotes ∙ h .size;
-        lane = λ l lt′.
-            let lt : l < v .model .lanes = subst (λ n. l < n) (planned-lanes ownInverter (schedulePlan kind) (v .model)) lt′ in
-            let d = facts .schedules (v .model) l lt in
-            let P : LaneRecord → Type 0 = λ r. HoldsAt r m′ l (b l) in
-            subst P (sym (getD-map promotes (v .records) l empty empty (within v b l h lt (t .0 .few))))
-              ( promote-holds (getD (v .records) l empty .key) _ _ _ _ _ (sym (d .2)) (d .0) (h .lane l lt .0)
-              , block-moved (getD (v .records) l empty .block) _ _ _ (sym (d .1)) (h .lane l lt .1) );
-      }
-  done-holds v b seal sound e h =
-      let t = working-tells (shape v) S e in
-      record {
-        size = h .size;
-        lane = λ l lt′.
-            let lt : l < v .model .lanes = subst (λ n. l < n) (planned-lanes ownInverter (sealPlan kind) (v .model)) lt′ in
-            let d = facts .seals (v .model) l lt in
-            let r : LaneRecord = getD (v .records) l empty in
-            ( key-moved (r .key) _ _ _ _ _ (sym (d .1 .key)) (λ n le. sym (d .1 .all n le)) (h .lane l lt .0)
-            , block-moved (r .block) _ _ _ (sym (d .0))
-                (turned-block (Cipher (rounds kind)) (encrypted kind) by-cipher (r .key) (r .block) _ _ _ _ _ (all-ready 0 (v .records) l (t .1)) (h .lane l lt .0) (h .lane l lt .1)) );
-      }
-  done-holds v b unseal sound e h =
-      let t = working-tells (shape v) O e in
-      record {
-        size = h .size;
-        lane = λ l lt′.
-            let lt : l < v .model .lanes = subst (λ n. l < n) (planned-lanes ownInverter (openPlan kind) (v .model)) lt′ in
-            let d = facts .opens (v .model) l lt in
-            let r : LaneRecord = getD (v .records) l empty in
-            ( key-moved (r .key) _ _ _ _ _ (sym (d .1 .key)) (λ n le. sym (d .1 .all n le)) (h .lane l lt .0)
-            , block-moved (r .block) _ _ _ (sym (d .0))
-                (turned-block (InvCipher (rounds kind)) (decrypted kind) by-inv-cipher (r .key) (r .block) _ _ _ _ _ (all-ready 0 (v .records) l (t .1)) (h .lane l lt .0) (h .lane l lt .1)) );
-      }
-  done-holds v b (read lane bs) sound e h = record { size = h .size; lane = h .lane }
-  done-holds v b counts sound e h = record { size = h .size; lane = h .lane }
-  done-holds v b left sound e h = record { size = h .size; lane = h .lane }
-  done-holds v b (record-of lane) sound e h = record { size = h .size; lane = h .lane }
-  done-holds v b unready-lane sound e h = record { size = h .size; lane = h .lane }
+pub done-holds : (v : View) (b : Book) (a : Asked) → Sound a → refusal (shape v) a ≡ None → Holds v b → Holds (done v a) (wrote b a)
+unfolding laid
+done-holds v b (place-key lane bs) sound e h =
+    let t = placing-tells (keyBytes kind) (shape v) lane (length bs) e in
+    let m′ : Model = laid 128 (8 * length bs) lane (bitsOf bs) (v .model) in
+    let n : 8 * length bs ≡ 128 = omega (arith, t .2) in
+    record {
+      size = length-set (v .records) lane _ ∙ h .size;
+      lane = λ l lt.
+          let P : LaneRecord → Bool → Type 0 = λ r y. HoldsAt r m′ l (cond y (record { key = Some bs; block = b l .block }) (b l)) in
+          changed (v .records) lane l _ P (within v b lane h (t .1) (t .0 .few))
+          (λ q. (
+            ap Some (sym (sym (shown-key m′ l) ∙ laid-sixteen 128 lane l bs (v .model) q (t .2) sound)),
+            block-kept (getD (v .records) lane empty .block) (v .model) m′ l (b l .block) (λ r hi. sym (laid-outside 128 (8 * length bs) lane (bitsOf bs) (v .model) r l (inl hi)))
+                (subst (λ (r : LaneRecord). HoldsBlock (r .block) (stateOf (v .model) l) (b l .block)) (ap (λ n. getD (v .records) n empty) q) (h .lane l lt .1)),
+          ))
+          (λ ne. lane-kept 128 (8 * length bs) lane (bitsOf bs) _ (v .model) l (b l) ne (h .lane l lt));
+    }
+done-holds v b (place-block lane bs) sound e h =
+    let t = placing-tells 16 (shape v) lane (length bs) e in
+    let m′ : Model = laid 0 (8 * length bs) lane (bitsOf bs) (v .model) in
+    record {
+      size = length-set (v .records) lane _ ∙ h .size;
+      lane = λ l lt.
+          let P : LaneRecord → Bool → Type 0 = λ r y. HoldsAt r m′ l (cond y (record { key = b l .key; block = Some bs }) (b l)) in
+          changed (v .records) lane l _ P (within v b lane h (t .1) (t .0 .few))
+          (λ q. (
+            key-kept (getD (v .records) lane empty .key) (v .model) m′ l (b l .key) (λ r lo hi. sym (laid-outside 0 (8 * length bs) lane (bitsOf bs) (v .model) r l (inr (omega (arith, t .2)))))
+                (subst (λ (r : LaneRecord). HoldsKey (r .key) (keyOf (v .model) l) (roundShown (v .model) l) (b l .key)) (ap (λ n. getD (v .records) n empty) q) (h .lane l lt .0)),
+            ap Some (sym (sym (shown-state m′ l) ∙ laid-sixteen 0 lane l bs (v .model) q (t .2) sound)),
+          ))
+          (λ ne. lane-kept 0 (8 * length bs) lane (bitsOf bs) _ (v .model) l (b l) ne (h .lane l lt));
+    }
+done-holds v b (clear lane) sound e h =
+    let t = naming-tells (shape v) lane e in
+    record {
+      size = length-set (v .records) lane _ ∙ h .size;
+      lane = λ l lt.
+          let P : LaneRecord → Bool → Type 0 = λ r y. HoldsAt r (zeroed 1536 lane (v .model)) l (cond y (record { key = None; block = None }) (b l)) in
+          changed (v .records) lane l _ P (within v b lane h (t .1) (t .0 .few)) (λ q. (tt, tt)) (λ ne. lane-kept 0 1536 lane (λ i. false) _ (v .model) l (b l) ne (h .lane l lt));
+    }
+done-holds v b schedule sound e h =
+    let t = scheduling-tells (shape v) e in
+    let m′ : Model = worked (schedulePlan kind) (v .model) in
+    record {
+      size = length-map (v .records) promotes ∙ h .size;
+      lane = λ l lt′.
+          let lt : l < v .model .lanes = subst (λ n. l < n) (planned-lanes ownInverter (schedulePlan kind) (v .model)) lt′ in
+          let d = plan-expands (v .model) l lt in
+          let P : LaneRecord → Type 0 = λ r. HoldsAt r m′ l (b l) in
+          subst P (sym (getD-map promotes (v .records) l empty empty (within v b l h lt (t .0 .few)))) (
+            promote-holds (getD (v .records) l empty .key) _ _ _ _ _ (sym (d .key)) (d .all) (h .lane l lt .0),
+            block-moved (getD (v .records) l empty .block) _ _ _ (sym (d .state)) (h .lane l lt .1),
+          );
+    }
+done-holds v b seal sound e h =
+    let t = working-tells (shape v) S e in
+    record {
+      size = h .size;
+      lane = λ l lt′.
+          let lt : l < v .model .lanes = subst (λ n. l < n) (planned-lanes ownInverter (sealPlan kind) (v .model)) lt′ in
+          let d = plan-enciphers (v .model) l lt in
+          let r : LaneRecord = getD (v .records) l empty in (
+            key-moved (r .key) _ _ _ _ _ (sym (d .keys .key)) (λ n le. sym (d .keys .all n le)) (h .lane l lt .0),
+            block-moved (r .block) _ _ _ (sym (d .state))
+                (turned-block (Cipher (rounds kind)) (encrypted kind) by-cipher (r .key) (r .block) _ _ _ _ _ (all-ready 0 (v .records) l (t .1)) (h .lane l lt .0) (h .lane l lt .1)),
+          );
+    }
+done-holds v b unseal sound e h =
+    let t = working-tells (shape v) O e in
+    record {
+      size = h .size;
+      lane = λ l lt′.
+          let lt : l < v .model .lanes = subst (λ n. l < n) (planned-lanes ownInverter (openPlan kind) (v .model)) lt′ in
+          let d = plan-deciphers (v .model) l lt in
+          let r : LaneRecord = getD (v .records) l empty in (
+            key-moved (r .key) _ _ _ _ _ (sym (d .keys .key)) (λ n le. sym (d .keys .all n le)) (h .lane l lt .0),
+            block-moved (r .block) _ _ _ (sym (d .state))
+                (turned-block (InvCipher (rounds kind)) (decrypted kind) by-inv-cipher (r .key) (r .block) _ _ _ _ _ (all-ready 0 (v .records) l (t .1)) (h .lane l lt .0) (h .lane l lt .1)),
+          );
+    }
+done-holds v b (read lane bs) sound e h = record { size = h .size; lane = h .lane }
+done-holds v b counts sound e h = record { size = h .size; lane = h .lane }
+done-holds v b left sound e h = record { size = h .size; lane = h .lane }
+done-holds v b (record-of lane) sound e h = record { size = h .size; lane = h .lane }
+done-holds v b unready-lane sound e h = record { size = h .size; lane = h .lane }
 
-  settled-holds : (o : Option Fault) (v w : View) (b c : Book) → (o ≡ None → Holds w c) → Holds v b → Holds (settled o w v) (λ l. settled o (c l) (b l))
-  settled-holds None v w b c h k = let g = h refl in record { size = g .size; lane = g .lane }
-  settled-holds (Some f) v w b c h k = record { size = k .size; lane = k .lane }
+settled-holds : (o : Option Fault) (v w : View) (b c : Book) → (o ≡ None → Holds w c) → Holds v b → Holds (settled o w v) (λ l. settled o (c l) (b l))
+settled-holds None v w b c h k = let g = h refl in record { size = g .size; lane = g .lane }
+settled-holds (Some f) v w b c h k = record { size = k .size; lane = k .lane }
 
-  pub next-holds : (v : View) (b : Book) (a : Asked) → Sound a → Holds v b → Holds (next v a) (entered b (performed v a))
-  next-holds v b a sound h =
-      let P : Book → Type 0 = λ c. Holds (next v a) c in
-      subst P (λ i l. sym (entered-is v a b l) i) (settled-holds (refusal (shape v) a) v (done v a) b (wrote b a) (λ e. done-holds v b a sound e h) h)
+pub next-holds : (v : View) (b : Book) (a : Asked) → Sound a → Holds v b → Holds (next v a) (entered b (performed v a))
+next-holds v b a sound h =
+    let P : Book → Type 0 = λ c. Holds (next v a) c in
+    subst P (λ i l. sym (entered-is v a b l) i) (settled-holds (refusal (shape v) a) v (done v a) b (wrote b a) (λ e. done-holds v b a sound e h) h)

@@ -29,8 +29,8 @@ use Rattle.law.specs.declared.calls.Answer.the-variants.{Refused, Done}
 use Rattle.law.specs.Calls.{Asked, place-key, place-block, clear, schedule, seal, unseal, read, counts, left, record-of, unready, Line, accepted, told, answered, answer, refusal, performed, next, done, filled, laneOf, log, ran}
 use Rattle.law.specs.Book.{Page, Book, blank, turned, wrote, entered, kept}
 use Rattle.law.specs.Law.{Readings, Charged, count, isSchedule, isSeal, isOpen, Alike, same, key-elsewhere, block-elsewhere, Agree, Each}
-use Rattle.law.proofs.Planned.{planned-registers, planned-lanes, worked-falls}
-use Rattle.law.proofs.Holds.{PlansDo, Sound, AllSound, Holds, HoldsBlock, made-holds, next-holds, entered-is}
+use Rattle.unit.proofs.Planned.{planned-registers, planned-lanes, worked-falls}
+use Rattle.law.proofs.Holds.{Sound, AllSound, Holds, HoldsBlock, made-holds, next-holds, entered-is}
 
 absurdity : {X : Type 0} → _≡_ {A = ℕ} 0 1 → X
 absurdity z = absurd (omega arith)
@@ -62,20 +62,20 @@ one-right v b left lane bytes a h call said ok = let z : _≡_ {A = ℕ} 0 1 = c
 one-right v b (record-of l) lane bytes a h call said ok = let z : _≡_ {A = ℕ} 0 1 = cc in absurdity z
 one-right v b unready lane bytes a h call said ok = let z : _≡_ {A = ℕ} 0 1 = cc in absurdity z
 
-pub all-right : (facts : PlansDo) (xs : List Asked) → AllSound xs → (v : View) (b : Book) → Holds v b → (before after : List Line) (lane : ℕ) (bytes : List ℕ) (a : Answer) → log v xs ≡ before ++ (record { call = read lane bytes; answer = a } ∷ after) → accepted a ≡ true → kept b before lane .block ≡ Some bytes
-all-right facts [] sound v b h [] after lane bytes a e ok = let z : _≡_ {A = ℕ} 0 1 = cc in absurdity z
-all-right facts [] sound v b h (y ∷ before) after lane bytes a e ok = let z : _≡_ {A = ℕ} 0 1 = cc in absurdity z
-all-right facts (x ∷ xs) sound v b h [] after lane bytes a e ok =
+pub all-right : (xs : List Asked) → AllSound xs → (v : View) (b : Book) → Holds v b → (before after : List Line) (lane : ℕ) (bytes : List ℕ) (a : Answer) → log v xs ≡ before ++ (record { call = read lane bytes; answer = a } ∷ after) → accepted a ≡ true → kept b before lane .block ≡ Some bytes
+all-right [] sound v b h [] after lane bytes a e ok = let z : _≡_ {A = ℕ} 0 1 = cc in absurdity z
+all-right [] sound v b h (y ∷ before) after lane bytes a e ok = let z : _≡_ {A = ℕ} 0 1 = cc in absurdity z
+all-right (x ∷ xs) sound v b h [] after lane bytes a e ok =
     let head : performed v x ≡ record { call = read lane bytes; answer = a } = cc in
     one-right v b x lane bytes a h (ap (λ (y : Line). y .call) head) (ap (λ (y : Line). y .answer) head) ok
-all-right facts (x ∷ xs) sound v b h (y ∷ before) after lane bytes a e ok =
+all-right (x ∷ xs) sound v b h (y ∷ before) after lane bytes a e ok =
     let head : performed v x ≡ y = cc in
     let tail : log (next v x) xs ≡ before ++ (record { call = read lane bytes; answer = a } ∷ after) = cc in
     ap (λ (y : Line). kept (entered b y) before lane .block) (sym head)
-    ∙ all-right facts xs (sound .1) (next v x) (entered b (performed v x)) (next-holds facts v b x (sound .0) h) before after lane bytes a tail ok
+    ∙ all-right xs (sound .1) (next v x) (entered b (performed v x)) (next-holds v b x (sound .0) h) before after lane bytes a tail ok
 
-pub readings : (facts : PlansDo) (m : Model) (x : Memory) (xs : List Asked) → AllSound xs → Readings (log (made m x) xs)
-readings facts m x xs sound = all-right facts xs sound (made m x) blank (made-holds m x)
+pub readings : (m : Model) (x : Memory) (xs : List Asked) → AllSound xs → Readings (log (made m x) xs)
+readings m x xs sound = all-right xs sound (made m x) blank (made-holds m x)
 
 -- ---- gates
 
@@ -249,10 +249,10 @@ agree-one ch v w b c hv hw e p (block-elsewhere l ds es ne len) = record {
   buffer = λ lane bs cs x y d. let z : _≡_ {A = ℕ} 0 1 = cc in absurdity z;
 }
 
-pub agree-all : (facts : PlansDo) (ch : ℕ) (xs ys : List Asked) → AllSound xs → AllSound ys → (v w : View) (b c : Book) → Holds v b → Holds w c → shape v ≡ shape w → b ch ≡ c ch → Each (Alike ch) xs ys → Each (Agree ch) (log v xs) (log w ys) × (ran v xs .model .left ≡ ran w ys .model .left)
-agree-all facts ch [] [] sx sy v w b c hv hw e p h = (tt, ap (λ (s : Shape). s .left) e)
-agree-all facts ch [] (y ∷ ys) sx sy v w b c hv hw e p h = absurd h
-agree-all facts ch (x ∷ xs) [] sx sy v w b c hv hw e p h = absurd h
-agree-all facts ch (x ∷ xs) (y ∷ ys) sx sy v w b c hv hw e p h =
-    let rest = agree-all facts ch xs ys (sx .1) (sy .1) (next v x) (next w y) (entered b (performed v x)) (entered c (performed w y)) (next-holds facts v b x (sx .0) hv) (next-holds facts w c y (sy .0) hw) (alike-next ch v w e (h .0)) (alike-page ch v w b c e p (h .0)) (h .1) in
+pub agree-all : (ch : ℕ) (xs ys : List Asked) → AllSound xs → AllSound ys → (v w : View) (b c : Book) → Holds v b → Holds w c → shape v ≡ shape w → b ch ≡ c ch → Each (Alike ch) xs ys → Each (Agree ch) (log v xs) (log w ys) × (ran v xs .model .left ≡ ran w ys .model .left)
+agree-all ch [] [] sx sy v w b c hv hw e p h = (tt, ap (λ (s : Shape). s .left) e)
+agree-all ch [] (y ∷ ys) sx sy v w b c hv hw e p h = absurd h
+agree-all ch (x ∷ xs) [] sx sy v w b c hv hw e p h = absurd h
+agree-all ch (x ∷ xs) (y ∷ ys) sx sy v w b c hv hw e p h =
+    let rest = agree-all ch xs ys (sx .1) (sy .1) (next v x) (next w y) (entered b (performed v x)) (entered c (performed w y)) (next-holds v b x (sx .0) hv) (next-holds w c y (sy .0) hw) (alike-next ch v w e (h .0)) (alike-page ch v w b c e p (h .0)) (h .1) in
     ((agree-one ch v w b c hv hw e p (h .0), rest .0), rest .1)

@@ -1,4 +1,3 @@
-pub mod Planned
 pub mod Holds
 pub mod Laws
 pub mod Did

@@ -41,20 +41,22 @@ turn v u w i xs now d e lt len h said became sound =
     let calls : List Asked = asks (take i xs) in
     let more : asks (take (i + 1) xs) ≡ calls ++ (a ∷ []) = asks-more xs i d lt ∙ ap (λ (x : Entry). calls ++ (asked (x .call) ∷ [])) (sym here) in
     let lt′ : i < length now = omega arith in
-    let one : i < i + 1 = omega arith in
-    ( lines-more now i e lt′
-      ∙ ap₂ (λ l x. l ++ (x ∷ [])) (h .0) (said ∙ ap (λ t. performed t a) (h .1))
-      ∙ sym (log-push v calls a)
-      ∙ ap (log v) (sym more)
-    , became ∙ ap (λ t. next t a) (h .1) ∙ sym (ran-push v calls a) ∙ ap (ran v) (sym more)
-    , drop-set-lt (i + 1) now i e one ∙ sym (drop-drop 1 i now) ∙ ap (drop 1) (h .2) ∙ drop-drop 1 i xs
-    , subst AllSound (sym more) (sound-push calls a (h .3) sound) )
+    let one : i < i + 1 = omega arith in (
+      lines-more now i e lt′
+          ∙ ap₂ (λ l x. l ++ (x ∷ [])) (h .0) (said ∙ ap (λ t. performed t a) (h .1))
+          ∙ sym (log-push v calls a)
+          ∙ ap (log v) (sym more),
+      became ∙ ap (λ t. next t a) (h .1) ∙ sym (ran-push v calls a) ∙ ap (ran v) (sym more),
+      drop-set-lt (i + 1) now i e one ∙ sym (drop-drop 1 i now) ∙ ap (drop 1) (h .2) ∙ drop-drop 1 i xs,
+      subst AllSound (sym more) (sound-push calls a (h .3) sound),
+    )
 
 pub finished : (v u : View) (i : ℕ) (xs now : List Entry) → length xs ≤ i → length now ≡ length xs → Sofar v u i xs now
     → (lines now ≡ log v (asks xs)) × (u ≡ ran v (asks xs)) × AllSound (asks xs)
 finished v u i xs now le len h =
     let all : take i xs ≡ xs = take-all i xs le in
-    let le′ : length now ≤ i = omega arith in
-    ( ap lines (sym (take-all i now le′)) ∙ h .0 ∙ ap (λ l. log v (asks l)) all
-    , h .1 ∙ ap (λ l. ran v (asks l)) all
-    , subst (λ (l : List Entry). AllSound (asks l)) all (h .3) )
+    let le′ : length now ≤ i = omega arith in (
+      ap lines (sym (take-all i now le′)) ∙ h .0 ∙ ap (λ l. log v (asks l)) all,
+      h .1 ∙ ap (λ l. ran v (asks l)) all,
+      subst (λ (l : List Entry). AllSound (asks l)) all (h .3),
+    )

@@ -1,3 +1,4 @@
 pub mod Calls
+pub mod Sound
 pub mod Book
 pub mod Law

@@ -38,7 +38,7 @@ key-place j h = ap (λ b. 8 * b) (cond-true (ltb j 16) (16 + j) (16 * (rounds ki
 pub shown-key : (m : Model) (l : ℕ) → shownAt m 128 l 16 ≡ keyOf m l
 shown-key m l =
     map-below (λ j. byteOf (laneOf m l) (128 + 8 * j)) (keyIn kind (laneOf m l)) 0 16
-      (λ j lo hi. byte-at (laneOf m l) (128 + 8 * j) (at (cond (ltb j 16) (16 + j) (16 * (rounds kind + 2) + (j - 16)))) (sym (key-place j hi)))
+    (λ j lo hi. byte-at (laneOf m l) (128 + 8 * j) (at (cond (ltb j 16) (16 + j) (16 * (rounds kind + 2) + (j - 16)))) (sym (key-place j hi)))
 
 -- ---- lanes that show the same bits
 
@@ -52,13 +52,13 @@ same-state m m′ l e =
 pub same-rounds : (m m′ : Model) (l : ℕ) → ((r : ℕ) → 128 ≤ r → r < 1536 → m .bit r l ≡ m′ .bit r l) → (n : ℕ) → n ≤ rounds kind → roundShown m l n ≡ roundShown m′ l n
 same-rounds m m′ l e n h =
     map-below (λ j. keyValue kind n (byteAt (laneOf m l) (key n j))) (λ j. keyValue kind n (byteAt (laneOf m′ l) (key n j))) 0 16
-      (λ j lo hi. ap (keyValue kind n) (byte-same (laneOf m l) (laneOf m′ l) (key n j) (λ i k. e (key n j + i) (omega arith) (omega arith))))
+    (λ j lo hi. ap (keyValue kind n) (byte-same (laneOf m l) (laneOf m′ l) (key n j) (λ i k. e (key n j + i) (omega arith) (omega arith))))
 
 pub same-key : (m m′ : Model) (l : ℕ) → ((r : ℕ) → 128 ≤ r → r < 256 → m .bit r l ≡ m′ .bit r l) → keyOf m l ≡ keyOf m′ l
 same-key m m′ l e =
     map-below (keyIn kind (laneOf m l)) (keyIn kind (laneOf m′ l)) 0 16 (λ j lo hi.
-      let p = key-place j hi in
-      byte-same (laneOf m l) (laneOf m′ l) (at (cond (ltb j 16) (16 + j) (16 * (rounds kind + 2) + (j - 16)))) (λ i k. e (at (cond (ltb j 16) (16 + j) (16 * (rounds kind + 2) + (j - 16))) + i) (omega arith) (omega arith)))
+    let p = key-place j hi in
+    byte-same (laneOf m l) (laneOf m′ l) (at (cond (ltb j 16) (16 + j) (16 * (rounds kind + 2) + (j - 16)))) (λ i k. e (at (cond (ltb j 16) (16 + j) (16 * (rounds kind + 2) + (j - 16))) + i) (omega arith) (omega arith)))
 
 -- ---- the round keys of a key hang on its sixteen bytes alone
 
@@ -77,4 +77,4 @@ round-byte-same k k′ e n j = ap (λ (w : List Word). getD (getD w (4 * n + j /
 pub round-key-of : (f : ℕ → ℕ) (n : ℕ) → sixteen (roundKeyByte (keyWords kind) f n) ≡ roundKey kind (sixteen f) n
 round-key-of f n =
     map-below (roundKeyByte 4 f n) (roundKeyByte 4 (byteIn (sixteen f)) n) 0 16
-      (λ j lo hi. round-byte-same f (byteIn (sixteen f)) (λ i h. sym (getD-map-counting f 0 16 i i 0 h (omega arith))) n j)
+    (λ j lo hi. round-byte-same f (byteIn (sixteen f)) (λ i h. sym (getD-map-counting f 0 16 i i 0 h (omega arith))) n j)

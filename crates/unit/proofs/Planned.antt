@@ -114,9 +114,9 @@ plan-enciphers m l h =
       state = d .0;
       keys = d .1;
       undone = open-does m′ l (after-plan (sealPlan kind) m l h) .0
-        ∙ ap (λ (x : List ℕ). InvCipher (rounds kind) x (roundShown m′ l)) (d .0)
-        ∙ same-inv-cipher (Cipher (rounds kind) (stateOf m l) (roundShown m l)) (roundShown m′ l) (roundShown m l) (d .1 .all)
-        ∙ invCipher-cipher (rounds kind) (omega arith) (stateOf m l) (roundShown m l) (state-bytes m l) (round-bytes m l);
+          ∙ ap (λ (x : List ℕ). InvCipher (rounds kind) x (roundShown m′ l)) (d .0)
+          ∙ same-inv-cipher (Cipher (rounds kind) (stateOf m l) (roundShown m l)) (roundShown m′ l) (roundShown m l) (d .1 .all)
+          ∙ invCipher-cipher (rounds kind) (omega arith) (stateOf m l) (roundShown m l) (state-bytes m l) (round-bytes m l);
     }
 
 pub plan-deciphers : (m : Model) (l : ℕ) → l < m .lanes → Deciphered m (worked (openPlan kind) m) l
@@ -127,9 +127,9 @@ plan-deciphers m l h =
       state = d .0;
       keys = d .1;
       undone = seal-does m′ l (after-plan (openPlan kind) m l h) .0
-        ∙ ap (λ (x : List ℕ). Cipher (rounds kind) x (roundShown m′ l)) (d .0)
-        ∙ same-cipher (InvCipher (rounds kind) (stateOf m l) (roundShown m l)) (roundShown m′ l) (roundShown m l) (d .1 .all)
-        ∙ cipher-invCipher (rounds kind) (omega arith) (stateOf m l) (roundShown m l) (state-bytes m l) (round-bytes m l);
+          ∙ ap (λ (x : List ℕ). Cipher (rounds kind) x (roundShown m′ l)) (d .0)
+          ∙ same-cipher (InvCipher (rounds kind) (stateOf m l) (roundShown m l)) (roundShown m′ l) (roundShown m l) (d .1 .all)
+          ∙ cipher-invCipher (rounds kind) (omega arith) (stateOf m l) (roundShown m l) (state-bytes m l) (round-bytes m l);
     }
 
 pub plan-stages : (m : Model) (l : ℕ) → l < m .lanes → Staged m l

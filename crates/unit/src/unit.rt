@@ -3,7 +3,7 @@
 // Registers 0 to 127 of a lane are its state, and round key n has the 128 registers from 128·(n + 1) on; bit or
 // coordinate i of byte j is at 8·j + i. Registers from 1,536 up are scratch.
 ghost use mathlib.Core.Path.{_≡_};
-ghost use Prim.Native.Nat.{ℕ, _+_, _*_, _≤_};
+ghost use Prim.Native.Nat.{ℕ, _+_, _*_, _<_, _≤_};
 ghost use lib.ListN.{length, getD};
 ghost use Rattle.std.specs.declared.option.Option.the-variants.{None};
 ghost use Rattle.standard.specs.Kinds.{keyBytes};
@@ -17,13 +17,13 @@ ghost use Rattle.unit.specs.Answers.{unitFault, ask, fits, enough, naming, pla
 use crate::records::KeyState;
 use crate::records::LaneRecord;
 use crate::table::LaneTable;
-use cipher::calls::open_all;
-use cipher::calls::schedule_all;
-use cipher::calls::seal_all;
 use bench::benches::Bench;
 use bench::faults::Fault;
 use bench::faults::Part;
 use bench::faults::Question;
+use cipher::calls::open_all;
+use cipher::calls::schedule_all;
+use cipher::calls::seal_all;
 use lane::clear_lane;
 use lane::place_bytes;
 use lane::read_bytes;
@@ -159,6 +159,7 @@ impl<B: Bench> CipherUnit<B> {
     pub fn place_key(&mut self, lane: usize, bytes: &[u8]) -> Result<(), Fault>
         ensures answer { λ r. ⌜ r ≡ given tt (placing (keyBytes kind) (shapeOf B·Bench (now (self .entry))) lane (length (now (bytes .entry)))) ⌝ }
         ensures after { λ _. ⌜ view B·Bench (now (self .exit)) ≡ settled (placing (keyBytes kind) (shapeOf B·Bench (now (self .entry))) lane (length (now (bytes .entry)))) (keyPlaced (view B·Bench (now (self .entry))) lane (now (bytes .entry))) (view B·Bench (now (self .entry))) ⌝ }
+        ensures bytes { λ _. ⌜ ((j : ℕ) → getD (now (bytes .entry)) j 0 < 256) ⌝ }
     {
         self.may_place(16, lane, bytes.len())?;
         place_bytes(&mut self.bench, KEY, lane as u16, bytes)?;
@@ -177,6 +178,7 @@ impl<B: Bench> CipherUnit<B> {
     pub fn place_block(&mut self, lane: usize, bytes: &[u8]) -> Result<(), Fault>
         ensures answer { λ r. ⌜ r ≡ given tt (placing 16 (shapeOf B·Bench (now (self .entry))) lane (length (now (bytes .entry)))) ⌝ }
         ensures after { λ _. ⌜ view B·Bench (now (self .exit)) ≡ settled (placing 16 (shapeOf B·Bench (now (self .entry))) lane (length (now (bytes .entry)))) (blockPlaced (view B·Bench (now (self .entry))) lane (now (bytes .entry))) (view B·Bench (now (self .entry))) ⌝ }
+        ensures bytes { λ _. ⌜ ((j : ℕ) → getD (now (bytes .entry)) j 0 < 256) ⌝ }
     {
         self.may_place(16, lane, bytes.len())?;
         place_bytes(&mut self.bench, STATE, lane as u16, bytes)?;

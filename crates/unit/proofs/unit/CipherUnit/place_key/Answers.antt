@@ -13,7 +13,7 @@ use Rattle.unit.proofs.Settled.{stays, becomes, accepted, placing-tells, span-
 use Rattle.unit.proofs.unit.CipherUnit.place_key.Needs as need
 
 pub returns-in-Break-may-place : need.returns-in-Break-may-place
-returns-in-Break-may-place g c = record { answer = search needs; after = stays tt _ _ _ _ (c .in-Break-may-place .ensures tt) }
+returns-in-Break-may-place g c = record { answer = search needs; after = stays tt _ _ _ _ (c .in-Break-may-place .ensures tt); bytes = λ j. omega (arith, c .typed .bytes j) }
 
 pub returns-in-Break-place-bytes : need.returns-in-Break-place-bytes
 returns-in-Break-place-bytes g c =
@@ -30,6 +30,7 @@ returns g c =
     let done = c .in-Continue-place-bytes .ensures tt in
     record {
       answer = search needs;
+      bytes = λ j. omega (arith, c .typed .bytes j);
       after = becomes tt tt _ _ _ _ (c .in-Continue-may-place .ensures tt) (λ i. record {
         model = done .leaves i;
         beneath = done .beneath i;

@@ -31,5 +31,5 @@ returns g c =
           (c .read-bytes .ensures .bytes
           ∙ ap (λ r. after r (shownAt m 0 (c .args .lane) (length buffer)) buffer) ok
           ∙ ap (shownAt m 0 (c .args .lane)) (told .2)
-        ∙ shown-state m (c .args .lane));
+          ∙ shown-state m (c .args .lane));
     }
