@@ -26,10 +26,11 @@ module _ (inv : List ℕ) (E : Inverts inv) (κ : KeyKind) where
   pub schedules : (m m′ : Model) → m′ ≡ planned inv (schedulePlan κ) m → Schedules κ m m′
   schedules m m′ e l h =
       let same = lane-after (schedulePlan κ) m m′ e l h in
-      let stood = schedule-stands inv E κ (laneOf m l) in
-      ( (λ n hn. ap (λ (σ : Lane). keysOf κ σ n) same ∙ stood .0 n hn)
-      , (λ r hr. (λ k. same k r) ∙ stood .1 r hr)
-      , (λ r lo hi. (λ k. same k r) ∙ stood .2 r lo hi) )
+      let stood = schedule-stands inv E κ (laneOf m l) in (
+        (λ n hn. ap (λ (σ : Lane). keysOf κ σ n) same ∙ stood .0 n hn),
+        (λ r hr. (λ k. same k r) ∙ stood .1 r hr),
+        (λ r lo hi. (λ k. same k r) ∙ stood .2 r lo hi),
+      )
 
   pub stages-stand : (m : Model) → StagesStand inv κ m
   stages-stand m l n h hn = ap stateOf (planned-lane inv (stagesTo κ n) m l h) ∙ seal-stands inv E κ (laneOf m l) .0 n hn

@@ -33,8 +33,8 @@ sized κ registers lanes = leb (room κ) registers && (leb 1 lanes && leb lanes 
 abbrev pub planAnswer : List ℕ → KeyKind → List Play → Model → Result (Unit {0}) Fault
 planAnswer inv κ plan m =
     cond (sized κ (m .registers) (m .lanes))
-      (cond (ltb (m .left) (planGates inv plan)) (Err (fault Gates UnitPart (planGates inv plan - m .left))) (Ok tt))
-      (Err (fault Size UnitPart 0))
+    (cond (ltb (m .left) (planGates inv plan)) (Err (fault Gates UnitPart (planGates inv plan - m .left))) (Ok tt))
+    (Err (fault Size UnitPart 0))
 
 abbrev pub Given : (Model → Model → Type 0) → Result (Unit {0}) Fault → Model → Model → Type 0
 Given P (Ok x) m m′ = P m m′
@@ -48,8 +48,8 @@ Fallen n m m′ = m′ .left + n ≡ m .left
 abbrev pub Schedules : KeyKind → Model → Model → Type 0
 Schedules κ m m′ = (l : ℕ) → l < m .lanes
     → ((n : ℕ) → n ≤ rounds κ → keysOf κ (laneOf m′ l) n ≡ sixteen (roundKeyByte (keyWords κ) (keyIn κ (laneOf m l)) n))
-      × ((r : ℕ) → r < at 32 → m′ .bit r l ≡ m .bit r l)
-      × ((r : ℕ) → at (16 * (rounds κ + 2)) ≤ r → r < at (free κ) → m′ .bit r l ≡ m .bit r l)
+    × ((r : ℕ) → r < at 32 → m′ .bit r l ≡ m .bit r l)
+    × ((r : ℕ) → at (16 * (rounds κ + 2)) ≤ r → r < at (free κ) → m′ .bit r l ≡ m .bit r l)
 
 -- after stage n the state shows the coordinates of the standard's state after round n
 abbrev pub StagesStand : List ℕ → KeyKind → Model → Type 0
@@ -60,10 +60,10 @@ StagesStand inv κ m = (l n : ℕ) → l < m .lanes → n < rounds κ
 abbrev pub Seals : KeyKind → Model → Model → Type 0
 Seals κ m m′ = (l : ℕ) → l < m .lanes
     → (stateOf (laneOf m′ l) ≡ Cipher (rounds κ) (stateOf (laneOf m l)) (keysOf κ (laneOf m l)))
-      × ((r : ℕ) → at 16 ≤ r → r < at (free κ) → m′ .bit r l ≡ m .bit r l)
+    × ((r : ℕ) → at 16 ≤ r → r < at (free κ) → m′ .bit r l ≡ m .bit r l)
 
 -- the block becomes its inverse cipher under the lane's round keys, which are as they were
 abbrev pub Opens : KeyKind → Model → Model → Type 0
 Opens κ m m′ = (l : ℕ) → l < m .lanes
     → (stateOf (laneOf m′ l) ≡ InvCipher (rounds κ) (stateOf (laneOf m l)) (keysOf κ (laneOf m l)))
-      × ((r : ℕ) → at 16 ≤ r → r < at (free κ) → m′ .bit r l ≡ m .bit r l)
+    × ((r : ℕ) → at 16 ≤ r → r < at (free κ) → m′ .bit r l ≡ m .bit r l)

@@ -49,12 +49,19 @@ mix-bytes (a ∷ []) h = tt
 mix-bytes (a ∷ b ∷ []) h = tt
 mix-bytes (a ∷ b ∷ c ∷ []) h = tt
 mix-bytes (a ∷ b ∷ c ∷ d ∷ rest) h =
-    let ha = h .0 in let hb = h .1 .0 in let hc = h .1 .1 .0 in let hd = h .1 .1 .1 .0 in
-    ( xor4 (mul 2 a) (mul 3 b) c d (mul2-byte a ha) (mul3-byte b hb) hc hd
-    , ( xor4 a (mul 2 b) (mul 3 c) d ha (mul2-byte b hb) (mul3-byte c hc) hd
-    , ( xor4 a b (mul 2 c) (mul 3 d) ha hb (mul2-byte c hc) (mul3-byte d hd)
-    , ( xor4 (mul 3 a) b c (mul 2 d) (mul3-byte a ha) hb hc (mul2-byte d hd)
-    , mix-bytes rest (h .1 .1 .1 .1) ))))
+    let ha = h .0 in let hb = h .1 .0 in let hc = h .1 .1 .0 in let hd = h .1 .1 .1 .0 in (
+      xor4 (mul 2 a) (mul 3 b) c d (mul2-byte a ha) (mul3-byte b hb) hc hd,
+      (
+        xor4 a (mul 2 b) (mul 3 c) d ha (mul2-byte b hb) (mul3-byte c hc) hd,
+        (
+          xor4 a b (mul 2 c) (mul 3 d) ha hb (mul2-byte c hc) (mul3-byte d hd),
+          (
+            xor4 (mul 3 a) b c (mul 2 d) (mul3-byte a ha) hb hc (mul2-byte d hd),
+            mix-bytes rest (h .1 .1 .1 .1),
+          ),
+        ),
+      ),
+    )
 
 pub add-bytes : (xs ks : List ℕ) → BytesAll xs → BytesAll ks → BytesAll (AddRoundKey xs ks)
 add-bytes [] ks h k = tt
@@ -66,4 +73,4 @@ cipher-bytes b ks hb hk zero = add-bytes (sixteen b) (sixteen (ks 0)) (bytes-map
 cipher-bytes b ks hb hk (suc n) =
     let prev = stateAfter n (sixteen b) (λ m. sixteen (ks m)) in
     add-bytes (MixColumns (ShiftRows (SubBytes prev))) (sixteen (ks (suc n)))
-      (mix-bytes (ShiftRows (SubBytes prev)) (shift-bytes (SubBytes prev) (sub-bytes prev (cipher-bytes b ks hb hk n)))) (bytes-map (ks (suc n)) (hk (suc n)) (counting 0 16))
+    (mix-bytes (ShiftRows (SubBytes prev)) (shift-bytes (SubBytes prev) (sub-bytes prev (cipher-bytes b ks hb hk n)))) (bytes-map (ks (suc n)) (hk (suc n)) (counting 0 16))

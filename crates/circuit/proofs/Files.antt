@@ -84,8 +84,8 @@ place-at P l i h =
 pub record Effect (gs : List Gate) (L : ℕ) (eff : File → File) : Type 0 where
   pub fit : T (fitsAll (8 * L) gs)
   pub does : (P : List ℕ) → length P ≡ L → T (distinct P) → (σ : Lane) (fs : File)
-    → ((l : ℕ) → l < L → Shows σ (getD P l 0) (getD fs l none))
-    → (l : ℕ) → l < L → Shows (playOn (place P) gs σ) (getD P l 0) (getD (eff fs) l none)
+      → ((l : ℕ) → l < L → Shows σ (getD P l 0) (getD fs l none))
+      → (l : ℕ) → l < L → Shows (playOn (place P) gs σ) (getD P l 0) (getD (eff fs) l none)
 
 set-shows : (σ : Lane) (file : File) (p : ℕ) (r : Option ℕ) (j : ℕ) → Shows σ p r → (((j ≡ p → ⊥)) → Shows σ j (getD file j none)) → Shows σ j (getD (set file p r) j none)
 set-shows σ file p r j hr rest = go (cases-eq j p)
@@ -94,6 +94,7 @@ set-shows σ file p r j hr rest = go (cases-eq j p)
     at-p [] q k h = tt
     at-p (x ∷ f) zero k h = h
     at-p (x ∷ f) (suc q) k h = at-p f q k h
+
     go : (j ≡ p) ⊎ (j ≡ p → ⊥) → Shows σ j (getD (set file p r) j none)
     go (inl e) = subst (λ (k : ℕ). Shows σ j (getD (set file p r) k none)) (sym e) (at-p file p j (subst (λ (k : ℕ). Shows σ k r) (sym e) hr))
     go (inr ne) = subst (Shows σ j) (sym (getD-set-other file p j r none ne)) (rest ne)
@@ -105,10 +106,10 @@ scatter-shows : (σ : Lane) (P : List ℕ) (rs file : File)
 scatter-shows σ [] rs file inside j outside = outside (λ l h e. omega arith)
 scatter-shows σ (p ∷ ps) [] file inside j outside =
     set-shows σ (scatter ps [] file) p none j tt
-      (λ ne. scatter-shows σ ps [] file (λ l h. tt) j (λ off. outside (elim [ zero ↦ (λ h e. ne e) | suc l ↦ (λ h e. off l (omega arith) e) ])))
+    (λ ne. scatter-shows σ ps [] file (λ l h. tt) j (λ off. outside (elim [ zero ↦ (λ h e. ne e) | suc l ↦ (λ h e. off l (omega arith) e) ])))
 scatter-shows σ (p ∷ ps) (r ∷ rs) file inside j outside =
     set-shows σ (scatter ps rs file) p r j (inside zero (omega arith))
-      (λ ne. scatter-shows σ ps rs file (λ l h. inside (suc l) (omega arith)) j (λ off. outside (elim [ zero ↦ (λ h e. ne e) | suc l ↦ (λ h e. off l (omega arith) e) ])))
+    (λ ne. scatter-shows σ ps rs file (λ l h. inside (suc l) (omega arith)) j (λ off. outside (elim [ zero ↦ (λ h e. ne e) | suc l ↦ (λ h e. off l (omega arith) e) ])))
 
 gather-at : (P : List ℕ) (file : File) (l : ℕ) → l < length P → getD (gather P file) l none ≡ getD file (getD P l 0) none
 gather-at [] file l h = absurd (omega arith)
@@ -125,5 +126,5 @@ pub play-file : (gs : List Gate) (L : ℕ) (eff : File → File) → Effect gs L
     → (P : List ℕ) → length P ≡ L → T (distinct P) → (σ : Lane) (file : File) → ShowsAll σ file → ShowsAll (playOn (place P) gs σ) (stepFile P eff file)
 play-file gs L eff E P len apart σ file shows j =
     scatter-shows (playOn (place P) gs σ) P (eff (gather P file)) file
-      (λ l h. E .does P len apart σ (gather P file) (λ k hk. subst (Shows σ (getD P k 0)) (sym (gather-at P file k (omega arith))) (shows (getD P k 0))) l (omega arith))
-      j (λ off. off-page P L gs σ len (E .fit) j off (getD file j none) (shows j))
+    (λ l h. E .does P len apart σ (gather P file) (λ k hk. subst (Shows σ (getD P k 0)) (sym (gather-at P file k (omega arith))) (shows (getD P k 0))) l (omega arith))
+    j (λ off. off-page P L gs σ len (E .fit) j off (getD file j none) (shows j))

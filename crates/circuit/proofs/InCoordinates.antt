@@ -88,11 +88,11 @@ coordinate-mix (a ∷ b ∷ c ∷ []) h = refl
 coordinate-mix (a ∷ b ∷ c ∷ d ∷ rest) h =
     let ha = h .0 in let hb = h .1 .0 in let hc = h .1 .1 .0 in let hd = h .1 .1 .1 .0 in
     cons4
-      (sum4 (aff2 (toCoordinates a)) (aff3 (toCoordinates b)) (aff1 (toCoordinates c)) (aff1 (toCoordinates d)) (mul 2 (affine a)) (mul 3 (affine b)) (affine c) (affine d) (aff2-to a ha) (aff3-to b hb) (aff1-to c hc) (aff1-to d hd))
-      (sum4 (aff1 (toCoordinates a)) (aff2 (toCoordinates b)) (aff3 (toCoordinates c)) (aff1 (toCoordinates d)) (affine a) (mul 2 (affine b)) (mul 3 (affine c)) (affine d) (aff1-to a ha) (aff2-to b hb) (aff3-to c hc) (aff1-to d hd))
-      (sum4 (aff1 (toCoordinates a)) (aff1 (toCoordinates b)) (aff2 (toCoordinates c)) (aff3 (toCoordinates d)) (affine a) (affine b) (mul 2 (affine c)) (mul 3 (affine d)) (aff1-to a ha) (aff1-to b hb) (aff2-to c hc) (aff3-to d hd))
-      (sum4 (aff3 (toCoordinates a)) (aff1 (toCoordinates b)) (aff1 (toCoordinates c)) (aff2 (toCoordinates d)) (mul 3 (affine a)) (affine b) (affine c) (mul 2 (affine d)) (aff3-to a ha) (aff1-to b hb) (aff1-to c hc) (aff2-to d hd))
-      (coordinate-mix rest (h .1 .1 .1 .1))
+    (sum4 (aff2 (toCoordinates a)) (aff3 (toCoordinates b)) (aff1 (toCoordinates c)) (aff1 (toCoordinates d)) (mul 2 (affine a)) (mul 3 (affine b)) (affine c) (affine d) (aff2-to a ha) (aff3-to b hb) (aff1-to c hc) (aff1-to d hd))
+    (sum4 (aff1 (toCoordinates a)) (aff2 (toCoordinates b)) (aff3 (toCoordinates c)) (aff1 (toCoordinates d)) (affine a) (mul 2 (affine b)) (mul 3 (affine c)) (affine d) (aff1-to a ha) (aff2-to b hb) (aff3-to c hc) (aff1-to d hd))
+    (sum4 (aff1 (toCoordinates a)) (aff1 (toCoordinates b)) (aff2 (toCoordinates c)) (aff3 (toCoordinates d)) (affine a) (affine b) (mul 2 (affine c)) (mul 3 (affine d)) (aff1-to a ha) (aff1-to b hb) (aff2-to c hc) (aff3-to d hd))
+    (sum4 (aff3 (toCoordinates a)) (aff1 (toCoordinates b)) (aff1 (toCoordinates c)) (aff2 (toCoordinates d)) (mul 3 (affine a)) (affine b) (affine c) (mul 2 (affine d)) (aff3-to a ha) (aff1-to b hb) (aff1-to c hc) (aff2-to d hd))
+    (coordinate-mix rest (h .1 .1 .1 .1))
 
 pub coordinate-add : (xs ks : List ℕ) → coordinateAdd (map toCoordinates xs) (map toCoordinates ks) ≡ map toCoordinates (AddRoundKey xs ks)
 coordinate-add [] ks = refl
@@ -101,13 +101,13 @@ coordinate-add (x ∷ xs) (k ∷ ks) = ap₂ {C = List ℕ} (λ y ys. y ∷ ys) 
 
 pub coordinate-round : (s k : ℕ → ℕ) → ((j : ℕ) → s j < 256)
     → coordinateRound (map (λ j. toCoordinates (s j)) (counting 0 16)) (map (λ j. toCoordinates (k j)) (counting 0 16))
-      ≡ map toCoordinates (Round (map s (counting 0 16)) (map k (counting 0 16)))
+    ≡ map toCoordinates (Round (map s (counting 0 16)) (map k (counting 0 16)))
 unfolding SBox
 coordinate-round s k small =
     ap (λ (xs : List ℕ). coordinateAdd (coordinateMix (ShiftRows xs)) (map (λ j. toCoordinates (k j)) (counting 0 16)))
-      (ap (λ (h : ℕ → ℕ). map h (counting 0 16)) (fun-ext (λ j. inv-to (s j) (small j))))
+    (ap (λ (h : ℕ → ℕ). map h (counting 0 16)) (fun-ext (λ j. inv-to (s j) (small j))))
     ∙ ap (λ (xs : List ℕ). coordinateAdd xs (map (λ j. toCoordinates (k j)) (counting 0 16)))
-        (coordinate-mix (map (λ j. inverse (s ((5 * j) % 16))) (counting 0 16)) (all (counting 0 16)))
+    (coordinate-mix (map (λ j. inverse (s ((5 * j) % 16))) (counting 0 16)) (all (counting 0 16)))
     ∙ coordinate-add (MixColumns (ShiftRows (map (λ x. SBox x) (map s (counting 0 16))))) (map k (counting 0 16))
   where
     all : (js : List ℕ) → BytesAll (map (λ j. inverse (s ((5 * j) % 16))) js)

@@ -40,6 +40,7 @@ in-place page m F small fits ran =
   where
     more : (m : ℕ) → suc m ≡ 1 + m
     more m = omega arith
+
     bytes : Bytes (F ∷ [])
     bytes zero v h = small v h
     bytes (suc l) v h = h
@@ -104,19 +105,40 @@ RconEffect n = Effect (gatesOf (rconPage n)) (1 + 0) (λ fs. unary (plus n ∷ [
 
 all-rcon : Each1 RconEffect (counting 0 11)
 unfolding rconPage gatesOf tests fitsAll run wide table plus
-all-rcon =
-    (  in-place (rconPage 0) 0 (plus 0) (small-below (plus 0) 256 256 tt) tt refl
-    , ( in-place (rconPage 1) 0 (plus 1) (small-below (plus 1) 256 256 tt) tt refl
-    , ( in-place (rconPage 2) 0 (plus 2) (small-below (plus 2) 256 256 tt) tt refl
-    , ( in-place (rconPage 3) 0 (plus 3) (small-below (plus 3) 256 256 tt) tt refl
-    , ( in-place (rconPage 4) 0 (plus 4) (small-below (plus 4) 256 256 tt) tt refl
-    , ( in-place (rconPage 5) 0 (plus 5) (small-below (plus 5) 256 256 tt) tt refl
-    , ( in-place (rconPage 6) 0 (plus 6) (small-below (plus 6) 256 256 tt) tt refl
-    , ( in-place (rconPage 7) 0 (plus 7) (small-below (plus 7) 256 256 tt) tt refl
-    , ( in-place (rconPage 8) 0 (plus 8) (small-below (plus 8) 256 256 tt) tt refl
-    , ( in-place (rconPage 9) 0 (plus 9) (small-below (plus 9) 256 256 tt) tt refl
-    , ( in-place (rconPage 10) 0 (plus 10) (small-below (plus 10) 256 256 tt) tt refl
-    , tt)))))))))))
+all-rcon = (
+  in-place (rconPage 0) 0 (plus 0) (small-below (plus 0) 256 256 tt) tt refl,
+  (
+    in-place (rconPage 1) 0 (plus 1) (small-below (plus 1) 256 256 tt) tt refl,
+    (
+      in-place (rconPage 2) 0 (plus 2) (small-below (plus 2) 256 256 tt) tt refl,
+      (
+        in-place (rconPage 3) 0 (plus 3) (small-below (plus 3) 256 256 tt) tt refl,
+        (
+          in-place (rconPage 4) 0 (plus 4) (small-below (plus 4) 256 256 tt) tt refl,
+          (
+            in-place (rconPage 5) 0 (plus 5) (small-below (plus 5) 256 256 tt) tt refl,
+            (
+              in-place (rconPage 6) 0 (plus 6) (small-below (plus 6) 256 256 tt) tt refl,
+              (
+                in-place (rconPage 7) 0 (plus 7) (small-below (plus 7) 256 256 tt) tt refl,
+                (
+                  in-place (rconPage 8) 0 (plus 8) (small-below (plus 8) 256 256 tt) tt refl,
+                  (
+                    in-place (rconPage 9) 0 (plus 9) (small-below (plus 9) 256 256 tt) tt refl,
+                    (
+                      in-place (rconPage 10) 0 (plus 10) (small-below (plus 10) 256 256 tt) tt refl,
+                      tt,
+                    ),
+                  ),
+                ),
+              ),
+            ),
+          ),
+        ),
+      ),
+    ),
+  ),
+)
 
 pub rcon-effect : (n : ℕ) → n ≤ 10 → Effect (gatesOf (rconPage n)) (1 + 0) (λ fs. unary (plus n ∷ []) (getD fs 0 none))
 rcon-effect n h = subst RconEffect (getD-counting 0 11 n 0 (omega arith) ∙ zeros n) (each1-getD RconEffect (counting 0 11) n 0 (omega arith) all-rcon)

@@ -42,8 +42,8 @@ sumSteps {inv} E κ i q = map (λ x. step (summer inv) ((home κ (i - keyWords �
 abbrev pub wordSteps : {inv : List ℕ} → Inverts inv → KeyKind → ℕ → List (Step inv)
 wordSteps {inv} E κ i =
     cond (eqb (i % keyWords κ) 0)
-      (subSteps E κ (home κ (i - 1)) 1 ++ (step (rconer inv (i / keyWords κ)) (temp κ ∷ []) (rest κ) ∷ sumSteps E κ i (temp κ)))
-      (cond (ltb 6 (keyWords κ) && eqb (i % keyWords κ) 4) (subSteps E κ (home κ (i - 1)) 0 ++ sumSteps E κ i (temp κ)) (sumSteps E κ i (home κ (i - 1))))
+    (subSteps E κ (home κ (i - 1)) 1 ++ (step (rconer inv (i / keyWords κ)) (temp κ ∷ []) (rest κ) ∷ sumSteps E κ i (temp κ)))
+    (cond (ltb 6 (keyWords κ) && eqb (i % keyWords κ) 4) (subSteps E κ (home κ (i - 1)) 0 ++ sumSteps E κ i (temp κ)) (sumSteps E κ i (home κ (i - 1))))
 
 abbrev pub leaveSteps : {inv : List ℕ} → Inverts inv → KeyKind → List (Step inv)
 leaveSteps {inv} E κ = map (λ j. step (leaver inv) ((16 * (rounds κ + 1) + j) ∷ []) (rest κ)) (counting 0 16)
@@ -58,7 +58,7 @@ subOut v = aff1 (coordinateInverse v)
 abbrev pub tempOut : ℕ → ℕ → List ℕ → List ℕ
 tempOut nk i w =
     cond (eqb (i % nk) 0) (plus (i / nk) (subOut (getD w 1 0)) ∷ subOut (getD w 2 0) ∷ subOut (getD w 3 0) ∷ subOut (getD w 0 0) ∷ [])
-      (cond (ltb 6 nk && eqb (i % nk) 4) (map subOut w) w)
+    (cond (ltb 6 nk && eqb (i % nk) 4) (map subOut w) w)
 
 abbrev pub wordOut : KeyKind → ℕ → (ℕ → ℕ) → List ℕ
 wordOut κ i k = zip2 add2 (wordOf k (home κ (i - keyWords κ))) (tempOut (keyWords κ) i (wordOf k (home κ (i - 1))))
@@ -69,7 +69,7 @@ within a b j = leb a j && ltb j b
 abbrev pub startUpd : KeyKind → (ℕ → ℕ) → ℕ → ℕ
 startUpd κ k j =
     cond (within (free κ) (free κ + 16) j) (toCoordinates (k (j - free κ + 16)))
-      (cond (within 32 (16 + keyBytes κ) j) (toCoordinates (k (j - 32 + 16 * (rounds κ + 2)))) (k j))
+    (cond (within 32 (16 + keyBytes κ) j) (toCoordinates (k (j - 32 + 16 * (rounds κ + 2)))) (k j))
 
 abbrev pub wordUpd : KeyKind → ℕ → (ℕ → ℕ) → ℕ → ℕ
 wordUpd κ i k j = cond (within (16 + 4 * i) (20 + 4 * i) j) (getD (wordOut κ i k) (j - (16 + 4 * i)) 0) (k j)

@@ -37,9 +37,10 @@ use Rattle.circuit.proofs.KeyStages.{KeysOk, start-ok, word-ok, leave-ok, star
 key-stage : (inv : List ℕ) (κ : KeyKind) (plan : List Play) (steps : List (Step inv)) (upd : (ℕ → ℕ) → ℕ → ℕ) → KeysOk inv κ plan steps upd
     → (σ : Lane) (s k : ℕ → ℕ) → Shown (free κ) σ s k → Shown (free κ) (runPlan inv plan σ) s (upd k)
 key-stage inv κ plan steps upd ok σ s k shown =
-    let parts = stage inv (free κ) plan steps (λ s k. map s (counting 0 16)) upd ok σ s k shown in
-    ( (λ j h. subst (λ (v : ℕ). Shows (runPlan inv plan σ) j (some v)) (getD-map-counting s 0 16 j j 0 h (omega arith)) (parts .0 j h))
-    , parts .1 )
+    let parts = stage inv (free κ) plan steps (λ s k. map s (counting 0 16)) upd ok σ s k shown in (
+      (λ j h. subst (λ (v : ℕ). Shows (runPlan inv plan σ) j (some v)) (getD-map-counting s 0 16 j j 0 h (omega arith)) (parts .0 j h)),
+      parts .1,
+    )
 
 -- ---- the tests of a range
 in-range : (a b j : ℕ) → a ≤ j → j < b → within a b j ≡ true
@@ -92,12 +93,13 @@ home-high κ m h = ap (λ (q : Bool). cond q (free κ + 4 * m) (16 + 4 * m)) (le
 
 byte-in : (f : ℕ → ℕ) (p : ℕ) (w : Word) → Four w → wordOf f p ≡ coordinates w → (x : ℕ) → x < 4 → f (p + x) ≡ toCoordinates (getD w x 0)
 byte-in f p w q = by-four (λ w. wordOf f p ≡ coordinates w → (x : ℕ) → x < 4 → f (p + x) ≡ toCoordinates (getD w x 0))
-    (λ a b c d ha hb hc hd e. elim
-      [ zero ↦ (λ h. ap f (nothing p) ∙ ap (λ (xs : List ℕ). getD xs 0 0) e)
+    (λ a b c d ha hb hc hd e. elim [
+      | zero ↦ (λ h. ap f (nothing p) ∙ ap (λ (xs : List ℕ). getD xs 0 0) e)
       | suc zero ↦ (λ h. ap (λ (xs : List ℕ). getD xs 1 0) e)
       | suc (suc zero) ↦ (λ h. ap (λ (xs : List ℕ). getD xs 2 0) e)
       | suc (suc (suc zero)) ↦ (λ h. ap (λ (xs : List ℕ). getD xs 3 0) e)
-      | suc (suc (suc (suc x))) ↦ (λ h. absurd (omega arith)) ]) w q
+      | suc (suc (suc (suc x))) ↦ (λ h. absurd (omega arith))
+    ]) w q
   where
     nothing : (p : ℕ) → p + 0 ≡ p
     nothing p = omega arith
@@ -138,8 +140,8 @@ module _ (inv : List ℕ) (E : Inverts inv) (κ : KeyKind) (σ : Lane) where
   shown-after zero h = key-stage inv κ (startPlan κ) (startSteps E κ) (startUpd κ) (start-ok E κ) σ shows shows (raw-shown (free κ) σ)
   shown-after (suc n) h =
       subst (λ τ. Shown (free κ) τ shows (keys (suc n))) (sym (run-append inv (wordsTo κ n) (wordPlan κ (n + keyWords κ)) σ))
-        (key-stage inv κ (wordPlan κ (n + keyWords κ)) (wordSteps E κ (n + keyWords κ)) (wordUpd κ (n + keyWords κ)) (word-ok E κ (n + keyWords κ) (omega arith) (omega arith))
-          (runPlan inv (wordsTo κ n) σ) shows (keys n) (shown-after n (omega arith)))
+      (key-stage inv κ (wordPlan κ (n + keyWords κ)) (wordSteps E κ (n + keyWords κ)) (wordUpd κ (n + keyWords κ)) (word-ok E κ (n + keyWords κ) (omega arith) (omega arith))
+      (runPlan inv (wordsTo κ n) σ) shows (keys n) (shown-after n (omega arith)))
 
   raw-low : (j : ℕ) → j < 16 → shows (16 + j) ≡ k j
   raw-low j h = ap (λ (q : Bool). shows (cond q (16 + j) (16 * (rounds κ + 2) + (j - 16)))) (sym (lt-ltb j 16 h))
@@ -162,9 +164,9 @@ module _ (inv : List ℕ) (E : Inverts inv) (κ : KeyKind) (σ : Lane) where
           let n = m - keyWords κ in
           let there : m ≡ n + keyWords κ = omega arith in
           subst (λ (x : ℕ). Four (W x)) (sym there)
-            (subst Four (sym (later-words (keyWords κ) (omega (arith, L .words)) k n))
-              (xor-four (W n) (before n (omega (arith, L .words))) (temp (keyWords κ) (n + keyWords κ) (W (n + keyWords κ - 1)))
-                (temp-four (keyWords κ) (n + keyWords κ) (W (n + keyWords κ - 1)) (before (n + keyWords κ - 1) (omega (arith, L .words))))))
+          (subst Four (sym (later-words (keyWords κ) (omega (arith, L .words)) k n))
+          (xor-four (W n) (before n (omega (arith, L .words))) (temp (keyWords κ) (n + keyWords κ) (W (n + keyWords κ - 1)))
+          (temp-four (keyWords κ) (n + keyWords κ) (W (n + keyWords κ - 1)) (before (n + keyWords κ - 1) (omega (arith, L .words))))))
 
   four-at : (m : ℕ) → Four (W m)
   four-at m = fours (suc m) m (omega arith)
@@ -176,7 +178,7 @@ module _ (inv : List ℕ) (E : Inverts inv) (κ : KeyKind) (σ : Lane) where
       go (inl l) =
           ap (λ (p : ℕ). startUpd κ shows (p + x)) (home-low κ m l)
           ∙ ap (λ (q : Bool). cond q (toCoordinates (shows (free κ + 4 * m + x - free κ + 16))) (cond (within 32 (16 + keyBytes κ) (free κ + 4 * m + x)) (toCoordinates (shows (free κ + 4 * m + x - 32 + 16 * (rounds κ + 2)))) (shows (free κ + 4 * m + x))))
-              (in-range (free κ) (free κ + 16) (free κ + 4 * m + x) (omega arith) (omega arith))
+          (in-range (free κ) (free κ + 16) (free κ + 4 * m + x) (omega arith) (omega arith))
           ∙ ap (λ (p : ℕ). toCoordinates (shows p)) (there (free κ) m x)
           ∙ ap toCoordinates (raw-low (4 * m + x) (omega arith))
         where
@@ -185,15 +187,16 @@ module _ (inv : List ℕ) (E : Inverts inv) (κ : KeyKind) (σ : Lane) where
       go (inr l) =
           ap (λ (p : ℕ). startUpd κ shows (p + x)) (home-high κ m l)
           ∙ ap (λ (q : Bool). cond q (toCoordinates (shows (16 + 4 * m + x - free κ + 16))) (cond (within 32 (16 + keyBytes κ) (16 + 4 * m + x)) (toCoordinates (shows (16 + 4 * m + x - 32 + 16 * (rounds κ + 2)))) (shows (16 + 4 * m + x))))
-              (off-range (free κ) (free κ + 16) (16 + 4 * m + x) (inl (omega (arith, L .few, L .room, L .many))))
+          (off-range (free κ) (free κ + 16) (16 + 4 * m + x) (inl (omega (arith, L .few, L .room, L .many))))
           ∙ ap (λ (q : Bool). cond q (toCoordinates (shows (16 + 4 * m + x - 32 + 16 * (rounds κ + 2)))) (shows (16 + 4 * m + x)))
-              (in-range 32 (16 + keyBytes κ) (16 + 4 * m + x) (omega arith) (omega (arith, L .bytes)))
+          (in-range 32 (16 + keyBytes κ) (16 + 4 * m + x) (omega arith) (omega (arith, L .bytes)))
           ∙ ap (λ (p : ℕ). toCoordinates (shows p)) there
           ∙ ap toCoordinates (raw-more (4 * m + x - 16) (omega (arith, L .bytes)))
           ∙ ap (λ (p : ℕ). toCoordinates (k p)) back
         where
           there : 16 + 4 * m + x - 32 + 16 * (rounds κ + 2) ≡ 16 * (rounds κ + 2) + (4 * m + x - 16)
           there = omega arith
+
           back : 16 + (4 * m + x - 16) ≡ 4 * m + x
           back = omega arith
 
@@ -202,7 +205,7 @@ module _ (inv : List ℕ) (E : Inverts inv) (κ : KeyKind) (σ : Lane) where
   unfolding keys
   there-after zero hn m hm =
       cons4 (ap (startUpd κ shows) (nothing (home κ m)) ∙ start-byte m (omega arith) 0 (omega arith) ∙ ap (λ (p : ℕ). toCoordinates (k p)) (sym (nothing (4 * m))))
-        (start-byte m (omega arith) 1 (omega arith)) (start-byte m (omega arith) 2 (omega arith)) (start-byte m (omega arith) 3 (omega arith))
+      (start-byte m (omega arith) 1 (omega arith)) (start-byte m (omega arith) 2 (omega arith)) (start-byte m (omega arith) 3 (omega arith))
       ∙ ap coordinates (sym (first-words (keyWords κ) (omega (arith, L .words)) k m (omega arith)))
     where
       nothing : (p : ℕ) → p ≡ p + 0
@@ -211,6 +214,7 @@ module _ (inv : List ℕ) (E : Inverts inv) (κ : KeyKind) (σ : Lane) where
     where
       kept : (p : ℕ) → ((x : ℕ) → x < 4 → (p + x < 16 + 4 * (n + keyWords κ)) ⊎ (20 + 4 * (n + keyWords κ) ≤ p + x)) → wordOf (keys (suc n)) p ≡ wordOf (keys n) p
       kept p off = same-word (keys (suc n)) (keys n) p (λ x hx. upd-off κ n (omega arith) (keys n) (p + x) (off x hx))
+
       go : ((m : ℕ) → m < n + keyWords κ → wordOf (keys n) (home κ m) ≡ coordinates (W m)) → (m < n + keyWords κ) ⊎ (n + keyWords κ ≤ m) → (m < 4) ⊎ (4 ≤ m) → wordOf (keys (suc n)) (home κ m) ≡ coordinates (W m)
       go before (inl l) (inl low) =
           kept (home κ m) (λ x hx. inr (omega (arith, home-low κ m low, L .all, L .room))) ∙ before m l
@@ -223,24 +227,28 @@ module _ (inv : List ℕ) (E : Inverts inv) (κ : KeyKind) (σ : Lane) where
         where
           back : n + keyWords κ - keyWords κ ≡ n
           back = omega arith
+
           nothing : (p : ℕ) → p ≡ p + 0
           nothing p = omega arith
+
           out : wordOut κ (n + keyWords κ) (keys n) ≡ coordinates (W (n + keyWords κ))
           out =
               ap₂ (λ (v w : List ℕ). zip2 add2 v (tempOut (keyWords κ) (n + keyWords κ) w))
-                (ap (λ (y : ℕ). wordOf (keys n) (home κ y)) back ∙ before n (omega (arith, L .words)))
-                (before (n + keyWords κ - 1) (omega (arith, L .words)))
+              (ap (λ (y : ℕ). wordOf (keys n) (home κ y)) back ∙ before n (omega (arith, L .words)))
+              (before (n + keyWords κ - 1) (omega (arith, L .words)))
               ∙ ap (zip2 add2 (coordinates (W n))) (temp-coordinates (keyWords κ) (n + keyWords κ) (W (n + keyWords κ - 1)) (four-at (n + keyWords κ - 1)))
               ∙ xor-coordinates (W n) (four-at n) (temp (keyWords κ) (n + keyWords κ) (W (n + keyWords κ - 1))) (temp-four (keyWords κ) (n + keyWords κ) (W (n + keyWords κ - 1)) (four-at (n + keyWords κ - 1)))
               ∙ ap coordinates (sym (later-words (keyWords κ) (omega (arith, L .words)) k n))
+
           listed : (xs : List ℕ) → xs ≡ coordinates (W (n + keyWords κ)) → _≡_ {A = List ℕ} (getD xs 0 0 ∷ getD xs 1 0 ∷ getD xs 2 0 ∷ getD xs 3 0 ∷ []) (coordinates (W (n + keyWords κ)))
           listed xs e = ap (λ (ys : List ℕ). getD ys 0 0 ∷ getD ys 1 0 ∷ getD ys 2 0 ∷ getD ys 3 0 ∷ []) e
               ∙ by-four (λ w. _≡_ {A = List ℕ} (getD (coordinates w) 0 0 ∷ getD (coordinates w) 1 0 ∷ getD (coordinates w) 2 0 ∷ getD (coordinates w) 3 0 ∷ []) (coordinates w)) (λ a b c d ha hb hc hd. refl) (W (n + keyWords κ)) (four-at (n + keyWords κ))
+
           new : wordOf (keys (suc n)) (home κ (n + keyWords κ)) ≡ coordinates (W (n + keyWords κ))
           new =
               ap (wordOf (keys (suc n))) (home-high κ (n + keyWords κ) (omega arith))
               ∙ cons4 (ap (keys (suc n)) (nothing (16 + 4 * (n + keyWords κ))) ∙ upd-on κ n (omega arith) (keys n) 0 (omega arith)) (upd-on κ n (omega arith) (keys n) 1 (omega arith))
-                  (upd-on κ n (omega arith) (keys n) 2 (omega arith)) (upd-on κ n (omega arith) (keys n) 3 (omega arith))
+              (upd-on κ n (omega arith) (keys n) 2 (omega arith)) (upd-on κ n (omega arith) (keys n) 3 (omega arith))
               ∙ listed (wordOut κ (n + keyWords κ) (keys n)) out
 
   -- ---- the ends
@@ -253,7 +261,7 @@ module _ (inv : List ℕ) (E : Inverts inv) (κ : KeyKind) (σ : Lane) where
   shown-final : Shown (free κ) end shows final
   shown-final =
       subst (λ τ. Shown (free κ) τ shows final) (sym (run-append inv (wordsTo κ (added κ)) (leavePlan κ) σ))
-        (key-stage inv κ (leavePlan κ) (leaveSteps E κ) (leaveUpd κ) (leave-ok E κ) (runPlan inv (wordsTo κ (added κ)) σ) shows (keys (added κ)) (shown-after (added κ) (omega arith)))
+      (key-stage inv κ (leavePlan κ) (leaveSteps E κ) (leaveUpd κ) (leave-ok E κ) (runPlan inv (wordsTo κ (added κ)) σ) shows (keys (added κ)) (shown-after (added κ) (omega arith)))
 
   leave-off : (j : ℕ) → (j < 16 * (rounds κ + 1)) ⊎ (16 * (rounds κ + 2) ≤ j) → final j ≡ keys (added κ) j
   leave-off j h = ap (λ (q : Bool). cond q (fromCoordinates (keys (added κ) j)) (keys (added κ) j)) (off-range (16 * (rounds κ + 1)) (16 * (rounds κ + 2)) j h)
@@ -266,7 +274,7 @@ module _ (inv : List ℕ) (E : Inverts inv) (κ : KeyKind) (σ : Lane) where
   unfolding keys
   untouched zero hn j far low =
       ap (λ (q : Bool). cond q (toCoordinates (shows (j - free κ + 16))) (cond (within 32 (16 + keyBytes κ) j) (toCoordinates (shows (j - 32 + 16 * (rounds κ + 2)))) (shows j)))
-        (off-range (free κ) (free κ + 16) j (inl low))
+      (off-range (free κ) (free κ + 16) j (inl low))
       ∙ ap (λ (q : Bool). cond q (toCoordinates (shows (j - 32 + 16 * (rounds κ + 2)))) (shows j)) (off-range 32 (16 + keyBytes κ) j (away far))
     where
       away : (j < 32) ⊎ (16 * (rounds κ + 2) ≤ j) → (j < 32) ⊎ (16 + keyBytes κ ≤ j)
@@ -310,12 +318,12 @@ module _ (inv : List ℕ) (E : Inverts inv) (κ : KeyKind) (σ : Lane) where
   byte-of : (n j : ℕ) → n ≤ rounds κ → j < 16 → (n ≡ 0) ⊎ (n ≡ 0 → ⊥) → (n ≡ rounds κ) ⊎ (n ≡ rounds κ → ⊥) → keyValue κ n (byteAt end (key n j)) ≡ roundKeyByte (keyWords κ) k n j
   byte-of n j hn hj (inl first) q =
       subst (λ (x : ℕ). keyValue κ x (byteAt end (key x j)) ≡ roundKeyByte (keyWords κ) k x j) (sym first)
-        (read 0 j (omega arith) hj ∙ kept-byte (16 + j) (inl (omega arith)) (omega (arith, L .room)) ∙ raw-low j hj ∙ key-zero j hj)
+      (read 0 j (omega arith) hj ∙ kept-byte (16 + j) (inl (omega arith)) (omega (arith, L .room)) ∙ raw-low j hj ∙ key-zero j hj)
   byte-of n j hn hj (inr p) (inl last) =
       subst (λ (x : ℕ). keyValue κ x (byteAt end (key x j)) ≡ roundKeyByte (keyWords κ) k x j) (sym last)
-        (last-value κ (byteAt end (key (rounds κ) j))
-        ∙ read (rounds κ) j (omega arith) hj ∙ leave-on (16 * (rounds κ + 1) + j) (omega arith) (omega arith)
-        ∙ ap fromCoordinates (key-there (rounds κ) j (omega (arith, L .many)) (omega arith) hj) ∙ from-to (roundKeyByte (keyWords κ) k (rounds κ) j) (key-small (rounds κ) j hj))
+      (last-value κ (byteAt end (key (rounds κ) j))
+      ∙ read (rounds κ) j (omega arith) hj ∙ leave-on (16 * (rounds κ + 1) + j) (omega arith) (omega arith)
+      ∙ ap fromCoordinates (key-there (rounds κ) j (omega (arith, L .many)) (omega arith) hj) ∙ from-to (roundKeyByte (keyWords κ) k (rounds κ) j) (key-small (rounds κ) j hj))
   byte-of n j hn hj (inr p) (inr q) =
       between-value κ n (byteAt end (key n j)) (omega arith) (omega arith)
       ∙ ap fromCoordinates (read n j hn hj ∙ leave-off (16 * (n + 1) + j) (inl (omega arith)) ∙ key-there n j (omega arith) hn hj)
@@ -330,12 +338,14 @@ module _ (inv : List ℕ) (E : Inverts inv) (κ : KeyKind) (σ : Lane) where
       away : (r < 256) ⊎ (128 * (rounds κ + 2) ≤ r) → (r / 8 < 32) ⊎ (16 * (rounds κ + 2) ≤ r / 8)
       away (inl h) = inl (omega arith)
       away (inr h) = inr (omega arith)
+
       go : (r / 8 < 16) ⊎ (16 ≤ r / 8) → Shows end (r / 8) (some (shows (r / 8)))
       go (inl h) = shown-final .0 (r / 8) h
       go (inr h) = subst (λ (v : ℕ). Shows end (r / 8) (some v)) (kept-byte (r / 8) (away far) (omega arith)) (shown-final .1 (r / 8) h (omega arith))
 
 pub schedule-stands : (inv : List ℕ) → Inverts inv → (κ : KeyKind) → ScheduleStands inv κ
-schedule-stands inv E κ σ =
-    ( keys-are inv E κ σ
-    , (λ r h. same-bit inv E κ σ r (inl h) (let room = layout κ .room in let many = layout κ .many in omega arith))
-    , (λ r lo hi. same-bit inv E κ σ r (inr (omega arith)) hi) )
+schedule-stands inv E κ σ = (
+  keys-are inv E κ σ,
+  (λ r h. same-bit inv E κ σ r (inl h) (let room = layout κ .room in let many = layout κ .many in omega arith)),
+  (λ r lo hi. same-bit inv E κ σ r (inr (omega arith)) hi),
+)

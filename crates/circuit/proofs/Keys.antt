@@ -51,7 +51,7 @@ module _ (κ : KeyKind) (σ : Lane) where
   pub key-between : (n : ℕ) → 1 ≤ n → n < rounds κ → keyBytesAt (raw σ) n ≡ map toCoordinates (keysOf κ σ n)
   key-between n lo hi =
       map-below (λ j. raw σ (16 * (n + 1) + j)) (λ j. toCoordinates (keyByte n j)) 0 16
-        (λ j l h. sym (ap toCoordinates (between-value κ n (raw σ (16 * (n + 1) + j)) lo hi) ∙ to-from (raw σ (16 * (n + 1) + j)) (byteAt-small σ (8 * (16 * (n + 1) + j)))))
+      (λ j l h. sym (ap toCoordinates (between-value κ n (raw σ (16 * (n + 1) + j)) lo hi) ∙ to-from (raw σ (16 * (n + 1) + j)) (byteAt-small σ (8 * (16 * (n + 1) + j)))))
 
 pub some-rounds : (κ : KeyKind) → rounds κ ≡ suc (rounds κ - 1)
 some-rounds aes128 = refl

@@ -25,7 +25,7 @@ gate-lane : (q : ℕ) (bases : List ℕ) (g : Gate) (m : Model) (l : ℕ) → l 
 unfolding gated gateOn
 gate-lane q bases g m l h = λ i r.
     cond (and-same (eqb r (registerOf q bases (g .target))) (ltb l (m .lanes)) (lt-ltb l (m .lanes) h) i)
-      (result (g .kind) (m .bit (registerOf q bases (g .first)) l) (m .bit (registerOf q bases (g .second)) l)) (m .bit r l)
+    (result (g .kind) (m .bit (registerOf q bases (g .first)) l) (m .bit (registerOf q bases (g .second)) l)) (m .bit r l)
 
 pub ran-lane : (q : ℕ) (bases : List ℕ) (gs : List Gate) (m : Model) (l : ℕ) → l < m .lanes
     → laneOf (ran (map (placed q bases) gs) m) l ≡ playOn (registerOf q bases) gs (laneOf m l)

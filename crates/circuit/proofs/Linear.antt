@@ -170,9 +170,10 @@ affineBy F cs c = tests (λ v. eqb (F v) (bitXor (combine cs 0 v) c)) 256 && tes
 
 pub affine-by : (F : ℕ → ℕ) → T (affineBy F (columns F) (F 0)) → Affine F
 unfolding affineBy
-affine-by F t = record
-  { byte = small-below F 256 256 (and-r (tests (λ v. eqb (F v) (bitXor (combine (columns F) 0 v) (F 0))) 256) (tests (λ v. ltb (F v) 256) 256) t)
-  ; sums = equal-below F (λ v. bitXor (combine (columns F) 0 v) (F 0)) 256 (and-l (tests (λ v. eqb (F v) (bitXor (combine (columns F) 0 v) (F 0))) 256) (tests (λ v. ltb (F v) 256) 256) t) }
+affine-by F t = record {
+  byte = small-below F 256 256 (and-r (tests (λ v. eqb (F v) (bitXor (combine (columns F) 0 v) (F 0))) 256) (tests (λ v. ltb (F v) 256) 256) t);
+  sums = equal-below F (λ v. bitXor (combine (columns F) 0 v) (F 0)) 256 (and-l (tests (λ v. eqb (F v) (bitXor (combine (columns F) 0 v) (F 0))) 256) (tests (λ v. ltb (F v) 256) 256) t);
+}
 
 abbrev pub sumOf : List (ℕ → ℕ) → List ℕ → ℕ
 sumOf [] vs = 0

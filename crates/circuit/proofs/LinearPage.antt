@@ -122,9 +122,9 @@ spared f n apart l i hi hn (g ∷ gs) σ fit sp =
     let fit1 = and-l (fitsGate n g) (fitsAll n gs) fit in
     let ht : t < n = ltb→lt t n (and-l (ltb t n) (ltb a n && ltb b n) fit1) in
     let other : (f (8 * l + i) ≡ f t) → ⊥ = λ e.
-          let same : 8 * l + i ≡ t = apart (8 * l + i) t hn ht e in
-          let at : t / 8 ≡ l = omega arith in
-          T-not (eqb (t / 8) l) (and-l (not (eqb (t / 8) l)) (spares l gs) sp) (subst (λ (x : ℕ). T (eqb (t / 8) x)) at (eqb-refl (t / 8))) in
+    let same : 8 * l + i ≡ t = apart (8 * l + i) t hn ht e in
+    let at : t / 8 ≡ l = omega arith in
+    T-not (eqb (t / 8) l) (and-l (not (eqb (t / 8) l)) (spares l gs) sp) (subst (λ (x : ℕ). T (eqb (t / 8) x)) at (eqb-refl (t / 8))) in
     spared f n apart l i hi hn gs (gateOn f g σ) (and-r (fitsGate n g) (fitsAll n gs) fit) (and-r (not (eqb (t / 8) l)) (spares l gs) sp)
     ∙ ap (λ (q : Bool). cond q (result k (σ (f a)) (σ (f b))) (σ (f (8 * l + i)))) (ne-eqb (f (8 * l + i)) (f t) other)
 
@@ -172,10 +172,10 @@ module _ (gs : List Gate) (q m : ℕ) (rows : List Row) (fit : T (fitsAll (8 * (
         at : (i : ℕ) → (i < 8 * q) ⊎ (8 * q ≤ i) → SumOf (inputs vs) (getD (startMasks q m) i none) (σ (place P i))
         at i (inl h) =
             subst (λ (o : Option Mask). SumOf (inputs vs) o (σ (place P i)))
-              (sym (getD-append-left heads (replicate (8 * m) none) none i (omega (arith, heads-long)) ∙ getD-map-counting (λ n. some (unit n (8 * q + 1))) 0 (8 * q) i i none h (omega arith)))
-              (dot-unit i (8 * q + 1) (inputs vs) (omega arith)
-                ∙ ap (λ (k : ℕ). getD (inputs vs) k false) (parts i) ∙ input-at vs (i / 8) (i % 8) (omega arith) (omega arith)
-                ∙ sym (shown (i / 8) (i % 8) (omega arith) (omega arith)))
+            (sym (getD-append-left heads (replicate (8 * m) none) none i (omega (arith, heads-long)) ∙ getD-map-counting (λ n. some (unit n (8 * q + 1))) 0 (8 * q) i i none h (omega arith)))
+            (dot-unit i (8 * q + 1) (inputs vs) (omega arith)
+            ∙ ap (λ (k : ℕ). getD (inputs vs) k false) (parts i) ∙ input-at vs (i / 8) (i % 8) (omega arith) (omega arith)
+            ∙ sym (shown (i / 8) (i % 8) (omega arith) (omega arith)))
           where
             parts : (i : ℕ) → i ≡ 8 * (i / 8) + i % 8
             parts i = omega arith
@@ -190,30 +190,39 @@ module _ (gs : List Gate) (q m : ℕ) (rows : List Row) (fit : T (fitsAll (8 * (
         where
           kept : (o : Option ℕ) → Shows σ (getD P l 0) o → Shows (playOn (place P) gs σ) (getD P l 0) o
           kept none h = tt
-          kept (some v) h = (h .0, λ i hi.
-              ap (playOn (place P) gs σ) (sym (place-at P l i hi))
-              ∙ spared (place P) (8 * (q + m)) (place-apart P (q + m) len apart) l i hi (omega arith) gs σ fit okr
-              ∙ ap σ (place-at P l i hi) ∙ h .1 i hi)
-      after l hl (sum Fs) okr = (sum-byte Fs vs (okr .1) small, λ i hi.
-          let told = tells-after (masked one) none (SumOf (inputs vs)) (keeps one (inputs vs) one-set) (place P) (8 * (q + m)) (place-apart P (q + m) len apart) gs (startMasks q m) σ fit before .1 (8 * l + i) (omega arith) in
-          let at : getD (maskRun gs q m) (8 * l + i) none ≡ some (maskOf Fs false i)
-                = sym (getD-take 8 (drop (8 * l) (maskRun gs q m)) i none hi ∙ getD-drop (8 * l) (maskRun gs q m) i none)
-                  ∙ ap (λ (x : List (Option Mask)). getD x i none) (okr .0) ∙ masks-at Fs i hi in
-          let e : dot (maskOf Fs false i) (inputs vs) ≡ playOn (place P) gs σ (place P (8 * l + i))
-                = subst (λ (o : Option Mask). SumOf (inputs vs) o (playOn (place P) gs σ (place P (8 * l + i)))) at told in
-          ap (playOn (place P) gs σ) (sym (place-at P l i hi)) ∙ sym e ∙ mask-right Fs vs (okr .1) small (okr .2 ∙ sym qs) false i)
+          kept (some v) h = (
+            h .0,
+            λ i hi.
+                ap (playOn (place P) gs σ) (sym (place-at P l i hi))
+                ∙ spared (place P) (8 * (q + m)) (place-apart P (q + m) len apart) l i hi (omega arith) gs σ fit okr
+                ∙ ap σ (place-at P l i hi) ∙ h .1 i hi,
+          )
+      after l hl (sum Fs) okr = (
+        sum-byte Fs vs (okr .1) small,
+        λ i hi.
+            let told = tells-after (masked one) none (SumOf (inputs vs)) (keeps one (inputs vs) one-set) (place P) (8 * (q + m)) (place-apart P (q + m) len apart) gs (startMasks q m) σ fit before .1 (8 * l + i) (omega arith) in
+            let at : getD (maskRun gs q m) (8 * l + i) none ≡ some (maskOf Fs false i)
+            = sym (getD-take 8 (drop (8 * l) (maskRun gs q m)) i none hi ∙ getD-drop (8 * l) (maskRun gs q m) i none)
+            ∙ ap (λ (x : List (Option Mask)). getD x i none) (okr .0) ∙ masks-at Fs i hi in
+            let e : dot (maskOf Fs false i) (inputs vs) ≡ playOn (place P) gs σ (place P (8 * l + i))
+            = subst (λ (o : Option Mask). SumOf (inputs vs) o (playOn (place P) gs σ (place P (8 * l + i)))) at told in
+            ap (playOn (place P) gs σ) (sym (place-at P l i hi)) ∙ sym e ∙ mask-right Fs vs (okr .1) small (okr .2 ∙ sym qs) false i,
+      )
 
   pub linear-page : Effect gs (q + m) (linear rows q)
-  linear-page = record { fit = fit; does = λ P len apart σ fs shows l hl.
-      go P len apart σ fs shows l hl (known q fs) (known-ok σ q (λ k. getD P k 0) fs (λ k hk. shows k (omega arith))) }
+  linear-page = record {
+    fit = fit;
+    does = λ P len apart σ fs shows l hl.
+        go P len apart σ fs shows l hl (known q fs) (known-ok σ q (λ k. getD P k 0) fs (λ k hk. shows k (omega arith)));
+  }
     where
       go : (P : List ℕ) → length P ≡ q + m → T (distinct P) → (σ : Lane) (fs : File) → ((l : ℕ) → l < q + m → Shows σ (getD P l 0) (getD fs l none))
           → (l : ℕ) → l < q + m → (o : Option (List ℕ)) → KnownOk σ (λ k. getD P k 0) q o → Shows (playOn (place P) gs σ) (getD P l 0) (getD (linearAt rows fs o) l none)
       go P len apart σ fs shows l hl none h = tt
       go P len apart σ fs shows l hl (some vs) h =
           subst (Shows (playOn (place P) gs σ) (getD P l 0)) (sym (rows-at rows fs vs l))
-            (after P len apart σ vs (h .0) (h .1) (h .2) fs shows l hl (getD rows l junk)
-              (subst (λ (k : ℕ). RowOk gs q (maskRun gs q m) k (getD rows l junk)) (zeros l) (row-ok gs q (maskRun gs q m) rows 0 ok l)))
+          (after P len apart σ vs (h .0) (h .1) (h .2) fs shows l hl (getD rows l junk)
+          (subst (λ (k : ℕ). RowOk gs q (maskRun gs q m) k (getD rows l junk)) (zeros l) (row-ok gs q (maskRun gs q m) rows 0 ok l)))
         where
           zeros : (l : ℕ) → 0 + l ≡ l
           zeros l = omega arith

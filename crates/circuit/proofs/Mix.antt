@@ -58,12 +58,31 @@ mix-fits = tt
 
 mix-rows : RowsOk (gatesOf mixPage) 4 (maskRun (gatesOf mixPage) 4 18) 0 mixRows
 unfolding gatesOf mixPage spares masks maskRun aff1 aff2 aff3
-mix-rows = (tt, (tt, (tt, (tt,
-    ((refl, (aff2-affine, (aff3-affine, (aff1-affine, (aff1-affine, tt)))), refl),
-    ((refl, (aff1-affine, (aff2-affine, (aff3-affine, (aff1-affine, tt)))), refl),
-    ((refl, (aff1-affine, (aff1-affine, (aff2-affine, (aff3-affine, tt)))), refl),
-    ((refl, (aff3-affine, (aff1-affine, (aff1-affine, (aff2-affine, tt)))), refl),
-    tt))))))))
+mix-rows = (
+  tt,
+  (
+    tt,
+    (
+      tt,
+      (
+        tt,
+        (
+          (refl, (aff2-affine, (aff3-affine, (aff1-affine, (aff1-affine, tt)))), refl),
+          (
+            (refl, (aff1-affine, (aff2-affine, (aff3-affine, (aff1-affine, tt)))), refl),
+            (
+              (refl, (aff1-affine, (aff1-affine, (aff2-affine, (aff3-affine, tt)))), refl),
+              (
+                (refl, (aff3-affine, (aff1-affine, (aff1-affine, (aff2-affine, tt)))), refl),
+                tt,
+              ),
+            ),
+          ),
+        ),
+      ),
+    ),
+  ),
+)
 
 pub mix-page : Effect (gatesOf mixPage) 22 (linear mixRows 4)
 mix-page = linear-page (gatesOf mixPage) 4 18 mixRows mix-fits mix-rows

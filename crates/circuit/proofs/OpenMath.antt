@@ -63,11 +63,11 @@ coordinate-unmix (a ∷ b ∷ c ∷ []) h = refl
 coordinate-unmix (a ∷ b ∷ c ∷ d ∷ rest) h =
     let ha = h .0 in let hb = h .1 .0 in let hc = h .1 .1 .0 in let hd = h .1 .1 .1 .0 in
     cons4
-      (sum4 (times 14 (toCoordinates a)) (times 11 (toCoordinates b)) (times 13 (toCoordinates c)) (times 9 (toCoordinates d)) (mul 14 a) (mul 11 b) (mul 13 c) (mul 9 d) (times-to 14 a ha) (times-to 11 b hb) (times-to 13 c hc) (times-to 9 d hd))
-      (sum4 (times 9 (toCoordinates a)) (times 14 (toCoordinates b)) (times 11 (toCoordinates c)) (times 13 (toCoordinates d)) (mul 9 a) (mul 14 b) (mul 11 c) (mul 13 d) (times-to 9 a ha) (times-to 14 b hb) (times-to 11 c hc) (times-to 13 d hd))
-      (sum4 (times 13 (toCoordinates a)) (times 9 (toCoordinates b)) (times 14 (toCoordinates c)) (times 11 (toCoordinates d)) (mul 13 a) (mul 9 b) (mul 14 c) (mul 11 d) (times-to 13 a ha) (times-to 9 b hb) (times-to 14 c hc) (times-to 11 d hd))
-      (sum4 (times 11 (toCoordinates a)) (times 13 (toCoordinates b)) (times 9 (toCoordinates c)) (times 14 (toCoordinates d)) (mul 11 a) (mul 13 b) (mul 9 c) (mul 14 d) (times-to 11 a ha) (times-to 13 b hb) (times-to 9 c hc) (times-to 14 d hd))
-      (coordinate-unmix rest (h .1 .1 .1 .1))
+    (sum4 (times 14 (toCoordinates a)) (times 11 (toCoordinates b)) (times 13 (toCoordinates c)) (times 9 (toCoordinates d)) (mul 14 a) (mul 11 b) (mul 13 c) (mul 9 d) (times-to 14 a ha) (times-to 11 b hb) (times-to 13 c hc) (times-to 9 d hd))
+    (sum4 (times 9 (toCoordinates a)) (times 14 (toCoordinates b)) (times 11 (toCoordinates c)) (times 13 (toCoordinates d)) (mul 9 a) (mul 14 b) (mul 11 c) (mul 13 d) (times-to 9 a ha) (times-to 14 b hb) (times-to 11 c hc) (times-to 13 d hd))
+    (sum4 (times 13 (toCoordinates a)) (times 9 (toCoordinates b)) (times 14 (toCoordinates c)) (times 11 (toCoordinates d)) (mul 13 a) (mul 9 b) (mul 14 c) (mul 11 d) (times-to 13 a ha) (times-to 9 b hb) (times-to 14 c hc) (times-to 11 d hd))
+    (sum4 (times 11 (toCoordinates a)) (times 13 (toCoordinates b)) (times 9 (toCoordinates c)) (times 14 (toCoordinates d)) (mul 11 a) (mul 13 b) (mul 9 c) (mul 14 d) (times-to 11 a ha) (times-to 13 b hb) (times-to 9 c hc) (times-to 14 d hd))
+    (coordinate-unmix rest (h .1 .1 .1 .1))
 
 -- ---- bytes
 pub unsub-bytes : (xs : List ℕ) → BytesAll xs → BytesAll (InvSubBytes (InvShiftRows xs))
@@ -82,12 +82,19 @@ unmix-bytes (a ∷ []) h = tt
 unmix-bytes (a ∷ b ∷ []) h = tt
 unmix-bytes (a ∷ b ∷ c ∷ []) h = tt
 unmix-bytes (a ∷ b ∷ c ∷ d ∷ rest) h =
-    let ha = h .0 in let hb = h .1 .0 in let hc = h .1 .1 .0 in let hd = h .1 .1 .1 .0 in
-    ( xor4 (mul 14 a) (mul 11 b) (mul 13 c) (mul 9 d) (mul14-byte a ha) (mul11-byte b hb) (mul13-byte c hc) (mul9-byte d hd)
-    , ( xor4 (mul 9 a) (mul 14 b) (mul 11 c) (mul 13 d) (mul9-byte a ha) (mul14-byte b hb) (mul11-byte c hc) (mul13-byte d hd)
-    , ( xor4 (mul 13 a) (mul 9 b) (mul 14 c) (mul 11 d) (mul13-byte a ha) (mul9-byte b hb) (mul14-byte c hc) (mul11-byte d hd)
-    , ( xor4 (mul 11 a) (mul 13 b) (mul 9 c) (mul 14 d) (mul11-byte a ha) (mul13-byte b hb) (mul9-byte c hc) (mul14-byte d hd)
-    , unmix-bytes rest (h .1 .1 .1 .1) ))))
+    let ha = h .0 in let hb = h .1 .0 in let hc = h .1 .1 .0 in let hd = h .1 .1 .1 .0 in (
+      xor4 (mul 14 a) (mul 11 b) (mul 13 c) (mul 9 d) (mul14-byte a ha) (mul11-byte b hb) (mul13-byte c hc) (mul9-byte d hd),
+      (
+        xor4 (mul 9 a) (mul 14 b) (mul 11 c) (mul 13 d) (mul9-byte a ha) (mul14-byte b hb) (mul11-byte c hc) (mul13-byte d hd),
+        (
+          xor4 (mul 13 a) (mul 9 b) (mul 14 c) (mul 11 d) (mul13-byte a ha) (mul9-byte b hb) (mul14-byte c hc) (mul11-byte d hd),
+          (
+            xor4 (mul 11 a) (mul 13 b) (mul 9 c) (mul 14 d) (mul11-byte a ha) (mul13-byte b hb) (mul9-byte c hc) (mul14-byte d hd),
+            unmix-bytes rest (h .1 .1 .1 .1),
+          ),
+        ),
+      ),
+    )
 
 pub added-bytes : (xs : List ℕ) (k : ℕ → ℕ) → BytesAll xs → ((j : ℕ) → k j < 256) → BytesAll (AddRoundKey (InvSubBytes (InvShiftRows xs)) (sixteen k))
 added-bytes xs k h hk = add-bytes (InvSubBytes (InvShiftRows xs)) (sixteen k) (unsub-bytes xs h) (bytes-map k hk (counting 0 16))

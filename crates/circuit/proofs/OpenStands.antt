@@ -95,7 +95,7 @@ module _ (inv : List ℕ) (E : Inverts inv) (κ : KeyKind) (σ : Lane) where
   in-coordinates (suc n) h =
       mid-out (rounds κ) (suc n) (sixteen (λ j. getD (shown n) j 0)) (keyBytesAt (raw σ) (rounds κ - suc n)) (λ e. omega arith) (λ e. omega arith)
       ∙ ap₂ (λ (x k : List ℕ). coordinateUnmix (coordinateAdd x k)) (unsubbed n (in-coordinates n (omega arith)))
-          (ap (keyBytesAt (raw σ)) (which n) ∙ key-between κ σ (rounds κ - 1 - n) (omega arith) (omega arith))
+      (ap (keyBytesAt (raw σ)) (which n) ∙ key-between κ σ (rounds κ - 1 - n) (omega arith) (omega arith))
       ∙ ap coordinateUnmix (coordinate-add (InvSubBytes (InvShiftRows (after n))) (keysOf κ σ (rounds κ - 1 - n)))
       ∙ coordinate-unmix (AddRoundKey (InvSubBytes (InvShiftRows (after n))) (keysOf κ σ (rounds κ - 1 - n))) (added-bytes (after n) (keyByte κ σ (rounds κ - 1 - n)) (bytes n) (key-small κ σ (rounds κ - 1 - n)))
 
@@ -119,6 +119,7 @@ module _ (inv : List ℕ) (E : Inverts inv) (κ : KeyKind) (σ : Lane) where
   final = subst (λ (r : ℕ). shown r ≡ AddRoundKey (InvSubBytes (InvShiftRows (after (rounds κ - 1)))) (keysOf κ σ 0)) (sym (some-rounds κ)) (at-last (rounds κ - 1) (some-rounds κ))
 
 pub open-stands : (inv : List ℕ) → Inverts inv → (κ : KeyKind) → OpenStands inv κ
-open-stands inv E κ σ =
-    ( reached inv E κ σ (rounds κ) (omega arith) ∙ ap (λ (xs : List ℕ). sixteen (λ j. getD xs j 0)) (final inv E κ σ)
-    , λ r lo hi. kept-after inv (free κ - 16) (rounds κ) (openStage κ) (openTo κ) (to-first κ) (to-more κ) (openSteps E κ) (out κ) (open-ok E κ) σ (rounds κ) (omega arith) r lo (omega (arith, behind κ)) )
+open-stands inv E κ σ = (
+  reached inv E κ σ (rounds κ) (omega arith) ∙ ap (λ (xs : List ℕ). sixteen (λ j. getD xs j 0)) (final inv E κ σ),
+  λ r lo hi. kept-after inv (free κ - 16) (rounds κ) (openStage κ) (openTo κ) (to-first κ) (to-more κ) (openSteps E κ) (out κ) (open-ok E κ) σ (rounds κ) (omega arith) r lo (omega (arith, behind κ)),
+)

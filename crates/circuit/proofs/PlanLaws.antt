@@ -58,6 +58,7 @@ address-place ps s q c len n h = go (cases-lt n (8 * q))
       where
         zeros : (q : ℕ) → q - q ≡ 0
         zeros q = omega arith
+
         last : 8 * s + (n - 8 * q) ≡ 8 * (s + (n / 8 - q)) + n % 8
         last = omega arith
 
@@ -103,15 +104,15 @@ step-shows inv (step p ps s) ok σ file shows j =
     let P = ps ++ counting s (p .c) in
     let long : length P ≡ p .q + p .c = length-append ps (counting s (p .c)) ∙ ap₂ _+_ len (length-counting s (p .c)) in
     shows-like (playOn (place P) (gatesOf (p .page)) σ) (playLane inv (p .make (byteBases ps s)) σ)
-      (λ r. sym (ap₂ (λ (pg bs : List ℕ). playOn (registerOf (socketsIn pg) bs) (gatesOf pg) σ r) (p .is-page (byteBases ps s)) (p .is-bases (byteBases ps s))
-        ∙ ap (λ (x : ℕ). playOn (registerOf x (byteBases ps s)) (gatesOf (p .page)) σ r) (p .sockets)
-        ∙ agree (registerOf (p .q) (byteBases ps s)) (place P) (8 * (p .q + p .c)) (address-place ps s (p .q) (p .c) len) (gatesOf (p .page)) σ (p .effect .fit) r))
-      j (getD (stepFile P (p .eff) file) j none)
-      (play-file (gatesOf (p .page)) (p .q + p .c) (p .eff) (p .effect) P long apart σ file shows j)
+    (λ r. sym (ap₂ (λ (pg bs : List ℕ). playOn (registerOf (socketsIn pg) bs) (gatesOf pg) σ r) (p .is-page (byteBases ps s)) (p .is-bases (byteBases ps s))
+    ∙ ap (λ (x : ℕ). playOn (registerOf x (byteBases ps s)) (gatesOf (p .page)) σ r) (p .sockets)
+    ∙ agree (registerOf (p .q) (byteBases ps s)) (place P) (8 * (p .q + p .c)) (address-place ps s (p .q) (p .c) len) (gatesOf (p .page)) σ (p .effect .fit) r))
+    j (getD (stepFile P (p .eff) file) j none)
+    (play-file (gatesOf (p .page)) (p .q + p .c) (p .eff) (p .effect) P long apart σ file shows j)
 
 pub plan-shows : (inv : List ℕ) (ts : List (Step inv)) → T (lawfulAll ts) → (σ : Lane) (file : File) → ShowsAll σ file → ShowsAll (runPlan inv (map playOf ts) σ) (fileAfter ts file)
 unfolding runPlan
 plan-shows inv [] ok σ file shows = shows
 plan-shows inv (step p ps s ∷ ts) ok σ file shows =
     plan-shows inv ts (and-r (lawful (step p ps s)) (lawfulAll ts) ok) (playLane inv (playOf (step p ps s)) σ) (stepFile (ps ++ counting s (p .c)) (p .eff) file)
-      (step-shows inv (step p ps s) (and-l (lawful (step p ps s)) (lawfulAll ts) ok) σ file shows)
+    (step-shows inv (step p ps s) (and-l (lawful (step p ps s)) (lawfulAll ts) ok) σ file shows)

@@ -51,7 +51,6 @@ Apart f n = (i j : ℕ) → i < n → j < n → f i ≡ f j → i ≡ j
 module _ {A : Type 0} (op : Kind → A → A → A) (d : A) (R : A → Bool → Type 0)
     (keeps : (k : Kind) (x y : A) (u v : Bool) → R x u → R y v → R (op k x y) (result k u v))
     (f : ℕ → ℕ) (n : ℕ) (apart : Apart f n) where
-
   -- the memory tells of the lane
   abbrev pub Tells : List A → Lane → Type 0
   Tells m σ = (length m ≡ n) × ((i : ℕ) → i < n → R (getD m i d) (σ (f i)))
@@ -67,12 +66,14 @@ module _ {A : Type 0} (op : Kind → A → A → A) (d : A) (R : A → Bool → 
       let new = op k (getD m a d) (getD m b d) in
       let val = result k (σ (f a)) (σ (f b)) in
       let at : (i : ℕ) → i < n → (i ≡ t) ⊎ (i ≡ t → ⊥) → R (getD (set m t new) i d) (cond (eqb (f i) (f t)) val (σ (f i)))
-             = λ i hi. elim [ inl e ↦ subst (λ (x : A). R x (cond (eqb (f i) (f t)) val (σ (f i)))) (sym (ap (λ (j : ℕ). getD (set m t new) j d) e ∙ getD-set-same m t new d (omega arith)))
-                                (subst (λ (q : Bool). R new (cond q val (σ (f i)))) (sym (eq-eqb (f i) (f t) (ap f e)))
-                                  (keeps k (getD m a d) (getD m b d) (σ (f a)) (σ (f b)) (tells a ha) (tells b hb)))
-                            | inr ne ↦ subst (λ (x : A). R x (cond (eqb (f i) (f t)) val (σ (f i)))) (sym (getD-set-other m t i new d ne))
-                                (subst (λ (q : Bool). R (getD m i d) (cond q val (σ (f i)))) (sym (ne-eqb (f i) (f t) (λ e. ne (apart i t hi ht e))))
-                                  (tells i hi)) ] in
+      = λ i hi. elim [
+        | inl e ↦ subst (λ (x : A). R x (cond (eqb (f i) (f t)) val (σ (f i)))) (sym (ap (λ (j : ℕ). getD (set m t new) j d) e ∙ getD-set-same m t new d (omega arith)))
+            (subst (λ (q : Bool). R new (cond q val (σ (f i)))) (sym (eq-eqb (f i) (f t) (ap f e)))
+            (keeps k (getD m a d) (getD m b d) (σ (f a)) (σ (f b)) (tells a ha) (tells b hb)))
+        | inr ne ↦ subst (λ (x : A). R x (cond (eqb (f i) (f t)) val (σ (f i)))) (sym (getD-set-other m t i new d ne))
+            (subst (λ (q : Bool). R (getD m i d) (cond q val (σ (f i)))) (sym (ne-eqb (f i) (f t) (λ e. ne (apart i t hi ht e))))
+            (tells i hi))
+      ] in
       (length-set m t new ∙ len, λ i hi. at i hi (cases-eq i t))
 
   pub tells-after : (gs : List Gate) (m : List A) (σ : Lane) → T (fitsAll n gs) → Tells m σ → Tells (run op d gs m) (playOn f gs σ)

@@ -80,19 +80,40 @@ module _ {inv : List ℕ} (E : Inverts inv) where
   FileAt κ n = (s k : ℕ → ℕ) → after κ s k n ≡ want κ s k n
 
   all-files : (κ : KeyKind) → Each1 (FileAt κ) (counting 0 (rounds κ + 1))
-  all-files aes128 =
-    ( (λ s k. refl)
-    , ( (λ s k. refl)
-    , ( (λ s k. refl)
-    , ( (λ s k. refl)
-    , ( (λ s k. refl)
-    , ( (λ s k. refl)
-    , ( (λ s k. refl)
-    , ( (λ s k. refl)
-    , ( (λ s k. refl)
-    , ( (λ s k. refl)
-    , ( (λ s k. refl)
-    , tt)))))))))))
+  all-files aes128 = (
+    (λ s k. refl),
+    (
+      (λ s k. refl),
+      (
+        (λ s k. refl),
+        (
+          (λ s k. refl),
+          (
+            (λ s k. refl),
+            (
+              (λ s k. refl),
+              (
+                (λ s k. refl),
+                (
+                  (λ s k. refl),
+                  (
+                    (λ s k. refl),
+                    (
+                      (λ s k. refl),
+                      (
+                        (λ s k. refl),
+                        tt,
+                      ),
+                    ),
+                  ),
+                ),
+              ),
+            ),
+          ),
+        ),
+      ),
+    ),
+  )
 
   file-at : (κ : KeyKind) (n : ℕ) → n ≤ rounds κ → FileAt κ n
   file-at κ n h = subst (FileAt κ) (getD-counting 0 (rounds κ + 1) n 0 (omega arith) ∙ zeros n)

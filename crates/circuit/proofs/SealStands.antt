@@ -94,8 +94,8 @@ module _ (inv : List ℕ) (E : Inverts inv) (κ : KeyKind) (σ : Lane) where
   in-coordinates (suc n) h =
       mid-out (rounds κ) (suc n) (sixteen (λ j. getD (shown n) j 0)) (keyBytesAt (raw σ) (suc n)) (λ e. omega arith) (λ e. omega arith)
       ∙ ap₂ coordinateRound
-          (ap (λ (xs : List ℕ). sixteen (λ j. getD xs j 0)) (in-coordinates n (omega arith)) ∙ spine-out (raw σ) (keyByte κ σ) n)
-          (key-between κ σ (suc n) (omega arith) h)
+      (ap (λ (xs : List ℕ). sixteen (λ j. getD xs j 0)) (in-coordinates n (omega arith)) ∙ spine-out (raw σ) (keyByte κ σ) n)
+      (key-between κ σ (suc n) (omega arith) h)
       ∙ coordinate-round (λ i. getD (after n) i 0) (keyByte κ σ (suc n)) (small n)
       ∙ ap (λ (xs : List ℕ). map toCoordinates (Round xs (keysOf κ σ (suc n)))) (spine (raw σ) (keyByte κ σ) n)
 
@@ -109,8 +109,8 @@ module _ (inv : List ℕ) (E : Inverts inv) (κ : KeyKind) (σ : Lane) where
       ∙ ap (λ (r : ℕ). stageOut r (suc m) (sixteen (λ j. getD (shown m) j 0)) (keyBytesAt (raw σ) (suc m))) e
       ∙ last-out (suc m) (sixteen (λ j. getD (shown m) j 0)) (keyBytesAt (raw σ) (suc m)) (λ e. omega arith)
       ∙ ap₂ (λ (x k : List ℕ). coordinateAdd (map finish (ShiftRows (map coordinateInverse x))) k)
-          (ap (λ (xs : List ℕ). sixteen (λ j. getD xs j 0)) (in-coordinates m (omega arith)) ∙ spine-out (raw σ) (keyByte κ σ) m)
-          (subst (λ (r : ℕ). keyBytesAt (raw σ) r ≡ keysOf κ σ r) e (key-last κ σ))
+      (ap (λ (xs : List ℕ). sixteen (λ j. getD xs j 0)) (in-coordinates m (omega arith)) ∙ spine-out (raw σ) (keyByte κ σ) m)
+      (subst (λ (r : ℕ). keyBytesAt (raw σ) r ≡ keysOf κ σ r) e (key-last κ σ))
       ∙ ap (λ (f : ℕ → ℕ). coordinateAdd (ShiftRows (map f (counting 0 16))) (keysOf κ σ (suc m))) (fun-ext (λ i. finish-inv (getD (after m) i 0) (small m i)))
       ∙ ap (λ (xs : List ℕ). coordinateAdd (ShiftRows (SubBytes xs)) (keysOf κ σ (suc m))) (spine (raw σ) (keyByte κ σ) m)
       ∙ plain-add (ShiftRows (SubBytes (after m))) (keysOf κ σ (suc m))
@@ -122,7 +122,8 @@ pub behind : (κ : KeyKind) → 16 + (free κ - 16) ≡ free κ
 behind aes128 = refl
 
 pub seal-stands : (inv : List ℕ) → Inverts inv → (κ : KeyKind) → SealStands inv κ
-seal-stands inv E κ σ =
-    ( (λ n h. reached inv E κ σ n (omega arith) ∙ ap (λ (xs : List ℕ). sixteen (λ j. getD xs j 0)) (in-coordinates inv E κ σ n h) ∙ spine-coordinates (raw σ) (keyByte κ σ) n)
-    , reached inv E κ σ (rounds κ) (omega arith) ∙ ap (λ (xs : List ℕ). sixteen (λ j. getD xs j 0)) (final inv E κ σ)
-    , λ r lo hi. kept-after inv (free κ - 16) (rounds κ) (stagePlan κ) (stagesTo κ) (to-first κ) (to-more κ) (stageSteps E κ) (out κ) (stage-ok E κ) σ (rounds κ) (omega arith) r lo (omega (arith, behind κ)) )
+seal-stands inv E κ σ = (
+  (λ n h. reached inv E κ σ n (omega arith) ∙ ap (λ (xs : List ℕ). sixteen (λ j. getD xs j 0)) (in-coordinates inv E κ σ n h) ∙ spine-coordinates (raw σ) (keyByte κ σ) n),
+  reached inv E κ σ (rounds κ) (omega arith) ∙ ap (λ (xs : List ℕ). sixteen (λ j. getD xs j 0)) (final inv E κ σ),
+  λ r lo hi. kept-after inv (free κ - 16) (rounds κ) (stagePlan κ) (stagesTo κ) (to-first κ) (to-more κ) (stageSteps E κ) (out κ) (stage-ok E κ) σ (rounds κ) (omega arith) r lo (omega (arith, behind κ)),
+)

@@ -48,9 +48,10 @@ abbrev pub raw : Lane → ℕ → ℕ
 raw σ j = byteAt σ (8 * j)
 
 pub raw-shown : (w : ℕ) (σ : Lane) → Shown w σ (raw σ) (raw σ)
-raw-shown w σ =
-    ( (λ j hj. (byteAt-small σ (8 * j), λ i hi. sym (byteAt-bit σ (8 * j) i hi)))
-    , (λ j l hj. (byteAt-small σ (8 * j), λ i hi. sym (byteAt-bit σ (8 * j) i hi))) )
+raw-shown w σ = (
+  (λ j hj. (byteAt-small σ (8 * j), λ i hi. sym (byteAt-bit σ (8 * j) i hi))),
+  (λ j l hj. (byteAt-small σ (8 * j), λ i hi. sym (byteAt-bit σ (8 * j) i hi))),
+)
 
 pub state-read : (w : ℕ) (σ : Lane) (s k : ℕ → ℕ) → Shown w σ s k → stateOf σ ≡ sixteen s
 state-read w σ s k shown = map-below (λ j. byteAt σ (at j)) s 0 16 (λ j l h. byteAt-is σ (8 * j) (s j) (shown .0 j h .0) (shown .0 j h .1))
@@ -79,10 +80,10 @@ module _ (inv : List ℕ) (w N : ℕ) (plan to : ℕ → List Play) (first : to 
   unfolding states
   shown-after zero h =
       subst (λ p. Shown w (runPlan inv p σ) (λ j. getD (states 0) j 0) (raw σ)) (sym first)
-        (stage inv w (plan 0) (steps 0) (λ s k. out 0 (map s (counting 0 16)) k) (λ k. k) (ok 0 h) σ (raw σ) (raw σ) (raw-shown w σ))
+      (stage inv w (plan 0) (steps 0) (λ s k. out 0 (map s (counting 0 16)) k) (λ k. k) (ok 0 h) σ (raw σ) (raw σ) (raw-shown w σ))
   shown-after (suc n) h =
       subst (λ τ. Shown w τ (λ j. getD (states (suc n)) j 0) (raw σ)) (sym (ap (λ p. runPlan inv p σ) (more n) ∙ run-append inv (to n) (plan (suc n)) σ))
-        (stage inv w (plan (suc n)) (steps (suc n)) (λ s k. out (suc n) (map s (counting 0 16)) k) (λ k. k) (ok (suc n) h) (runPlan inv (to n) σ) (λ j. getD (states n) j 0) (raw σ) (shown-after n (omega arith)))
+      (stage inv w (plan (suc n)) (steps (suc n)) (λ s k. out (suc n) (map s (counting 0 16)) k) (λ k. k) (ok (suc n) h) (runPlan inv (to n) σ) (λ j. getD (states n) j 0) (raw σ) (shown-after n (omega arith)))
 
   pub state-after : (n : ℕ) → n ≤ N → stateOf (runPlan inv (to n) σ) ≡ sixteen (λ j. getD (states n) j 0)
   state-after n h = state-read w (runPlan inv (to n) σ) (λ j. getD (states n) j 0) (raw σ) (shown-after n h)

@@ -135,7 +135,6 @@ out-at (F ∷ Fs) v (suc l) σ j h = out-at Fs v l σ j (λ k. h (omega arith))
 module _ (gs : List Gate) (m : ℕ) (Fs : List (ℕ → ℕ)) (bytes : Bytes Fs)
     (fit : T (fitsAll (8 * suc m) gs)) (few : length Fs ≤ suc m)
     (ran : take (8 * length Fs) (run wide none gs (start m)) ≡ expected Fs) where
-
   module _ (P : List ℕ) (len : length P ≡ suc m) (apart : T (distinct P)) (σ : Lane) (v : ℕ) (hv : v < 256)
       (shown : (i : ℕ) → i < 8 → σ (8 * getD P 0 0 + i) ≡ bit v i) where
     before : Tells wide none (LaneOf v) (keeps v hv) (place P) (8 * suc m) (place-apart P (suc m) len apart) (start m) σ
@@ -144,7 +143,7 @@ module _ (gs : List Gate) (m : ℕ) (Fs : List (ℕ → ℕ)) (bytes : Bytes Fs)
         at : (i : ℕ) → (i < 8) ⊎ (8 ≤ i) → LaneOf v (getD (start m) i none) (σ (place P i))
         at i (inl h) =
             subst (λ (o : Option ℕ). LaneOf v o (σ (place P i))) (sym (tab8-at same (replicate (8 * m) none) i h))
-              (bit-table same 256 i v hv ∙ sym (ap σ (ap (place P) (zeros i) ∙ place-at P 0 i h) ∙ shown i h))
+            (bit-table same 256 i v hv ∙ sym (ap σ (ap (place P) (zeros i) ∙ place-at P 0 i h) ∙ shown i h))
           where
             zeros : (i : ℕ) → i ≡ 8 * 0 + i
             zeros i = omega arith
@@ -154,21 +153,26 @@ module _ (gs : List Gate) (m : ℕ) (Fs : List (ℕ → ℕ)) (bytes : Bytes Fs)
             none-at zero k = refl
             none-at (suc n) zero = refl
             none-at (suc n) (suc k) = none-at n k
+
             unknown : (k i : ℕ) → i ≡ 8 + k → getD (start m) i none ≡ none
             unknown k i e = ap (λ (x : ℕ). getD (start m) x none) e ∙ tab8-past same (replicate (8 * m) none) k ∙ none-at (8 * m) k
 
     after : (l : ℕ) → l < length Fs → Shows (playOn (place P) gs σ) (getD P l 0) (some (getD Fs l same v))
-    after l hl = (bytes l v hv, λ i hi.
-        let told = tells-after wide none (LaneOf v) (keeps v hv) (place P) (8 * suc m) (place-apart P (suc m) len apart) gs (start m) σ fit before .1 (8 * l + i) (omega arith) in
-        let known : getD (run wide none gs (start m)) (8 * l + i) none ≡ some (table (getD Fs l same) 256 i)
-              = sym (getD-take (8 * length Fs) (run wide none gs (start m)) (8 * l + i) none (omega arith)) ∙ ap (λ (x : List (Option ℕ)). getD x (8 * l + i) none) ran ∙ expected-at Fs l i hl hi in
-        let e : bit (table (getD Fs l same) 256 i) v ≡ playOn (place P) gs σ (place P (8 * l + i)) = subst (λ (o : Option ℕ). LaneOf v o (playOn (place P) gs σ (place P (8 * l + i)))) known told in
-        ap (playOn (place P) gs σ) (sym (place-at P l i hi)) ∙ sym e ∙ bit-table (getD Fs l same) 256 i v hv)
+    after l hl = (
+      bytes l v hv,
+      λ i hi.
+          let told = tells-after wide none (LaneOf v) (keeps v hv) (place P) (8 * suc m) (place-apart P (suc m) len apart) gs (start m) σ fit before .1 (8 * l + i) (omega arith) in
+          let known : getD (run wide none gs (start m)) (8 * l + i) none ≡ some (table (getD Fs l same) 256 i)
+          = sym (getD-take (8 * length Fs) (run wide none gs (start m)) (8 * l + i) none (omega arith)) ∙ ap (λ (x : List (Option ℕ)). getD x (8 * l + i) none) ran ∙ expected-at Fs l i hl hi in
+          let e : bit (table (getD Fs l same) 256 i) v ≡ playOn (place P) gs σ (place P (8 * l + i)) = subst (λ (o : Option ℕ). LaneOf v o (playOn (place P) gs σ (place P (8 * l + i)))) known told in
+          ap (playOn (place P) gs σ) (sym (place-at P l i hi)) ∙ sym e ∙ bit-table (getD Fs l same) 256 i v hv,
+    )
 
   pub unary-page : Effect gs (suc m) (λ fs. unary Fs (getD fs 0 none))
-  unary-page = record
-    { fit = fit
-    ; does = λ P len apart σ fs shows l hl. go P len apart σ (getD fs 0 none) (shows 0 (omega arith)) l }
+  unary-page = record {
+    fit = fit;
+    does = λ P len apart σ fs shows l hl. go P len apart σ (getD fs 0 none) (shows 0 (omega arith)) l;
+  }
     where
       go : (P : List ℕ) → length P ≡ suc m → T (distinct P) → (σ : Lane) (o : Option ℕ) → Shows σ (getD P 0 0) o → (l : ℕ) → Shows (playOn (place P) gs σ) (getD P l 0) (getD (unary Fs o) l none)
       go P len apart σ none h l = tt

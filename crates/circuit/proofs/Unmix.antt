@@ -46,12 +46,31 @@ unmix-fits = tt
 
 unmix-rows : RowsOk (gatesOf unmixPage) 4 (maskRun (gatesOf unmixPage) 4 25) 0 unmixRows
 unfolding gatesOf unmixPage spares masks maskRun times
-unmix-rows = (tt, (tt, (tt, (tt,
-    ((refl, (by14, (by11, (by13, (by9, tt)))), refl),
-    ((refl, (by9, (by14, (by11, (by13, tt)))), refl),
-    ((refl, (by13, (by9, (by14, (by11, tt)))), refl),
-    ((refl, (by11, (by13, (by9, (by14, tt)))), refl),
-    tt))))))))
+unmix-rows = (
+  tt,
+  (
+    tt,
+    (
+      tt,
+      (
+        tt,
+        (
+          (refl, (by14, (by11, (by13, (by9, tt)))), refl),
+          (
+            (refl, (by9, (by14, (by11, (by13, tt)))), refl),
+            (
+              (refl, (by13, (by9, (by14, (by11, tt)))), refl),
+              (
+                (refl, (by11, (by13, (by9, (by14, tt)))), refl),
+                tt,
+              ),
+            ),
+          ),
+        ),
+      ),
+    ),
+  ),
+)
 
 pub unmix-page : Effect (gatesOf unmixPage) 29 (linear unmixRows 4)
 unmix-page = linear-page (gatesOf unmixPage) 4 25 unmixRows unmix-fits unmix-rows

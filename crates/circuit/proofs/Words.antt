@@ -36,12 +36,12 @@ cons4 a b c d = λ i. a i ∷ b i ∷ c i ∷ d i ∷ []
 pub xor-four : (v : Word) → Four v → (w : Word) → Four w → Four (xorWord v w)
 xor-four v hv w hw = by-four (λ x. Four (xorWord x w))
     (λ a b c d ha hb hc hd. by-four (λ y. Four (xorWord (a ∷ b ∷ c ∷ d ∷ []) y))
-      (λ a′ b′ c′ d′ ha′ hb′ hc′ hd′. four (bitXor a a′) (bitXor b b′) (bitXor c c′) (bitXor d d′) (xor-lt 8 a a′ ha ha′) (xor-lt 8 b b′ hb hb′) (xor-lt 8 c c′ hc hc′) (xor-lt 8 d d′ hd hd′)) w hw) v hv
+    (λ a′ b′ c′ d′ ha′ hb′ hc′ hd′. four (bitXor a a′) (bitXor b b′) (bitXor c c′) (bitXor d d′) (xor-lt 8 a a′ ha ha′) (xor-lt 8 b b′ hb hb′) (xor-lt 8 c c′ hc hc′) (xor-lt 8 d d′ hd hd′)) w hw) v hv
 
 pub xor-coordinates : (v : Word) → Four v → (w : Word) → Four w → zip2 add2 (coordinates v) (coordinates w) ≡ coordinates (xorWord v w)
 xor-coordinates v hv w hw = by-four (λ x. zip2 add2 (coordinates x) (coordinates w) ≡ coordinates (xorWord x w))
     (λ a b c d ha hb hc hd. by-four (λ y. zip2 add2 (coordinates (a ∷ b ∷ c ∷ d ∷ [])) (coordinates y) ≡ coordinates (xorWord (a ∷ b ∷ c ∷ d ∷ []) y))
-      (λ a′ b′ c′ d′ ha′ hb′ hc′ hd′. cons4 (add2-to a a′) (add2-to b b′) (add2-to c c′) (add2-to d d′)) w hw) v hv
+    (λ a′ b′ c′ d′ ha′ hb′ hc′ hd′. cons4 (add2-to a a′) (add2-to b b′) (add2-to c c′) (add2-to d d′)) w hw) v hv
 
 module _ (nk i : ℕ) (w : Word) (hw : Four w) where
   pub temp-four : Four (temp nk i w)
@@ -60,10 +60,11 @@ module _ (nk i : ℕ) (w : Word) (hw : Four w) where
     where
       plain : (v : ℕ) → v < 256 → subOut (toCoordinates v) ≡ toCoordinates (bitXor (SBox v) 0)
       plain v h = sub-to v h ∙ ap toCoordinates (sym (xor-zero-r (SBox v)))
+
       go : (a b c d : ℕ) → a < 256 → b < 256 → c < 256 → d < 256 → (p q : Bool)
           → cond p (plus (i / nk) (subOut (toCoordinates b)) ∷ subOut (toCoordinates c) ∷ subOut (toCoordinates d) ∷ subOut (toCoordinates a) ∷ [])
-              (cond q (subOut (toCoordinates a) ∷ subOut (toCoordinates b) ∷ subOut (toCoordinates c) ∷ subOut (toCoordinates d) ∷ []) (toCoordinates a ∷ toCoordinates b ∷ toCoordinates c ∷ toCoordinates d ∷ []))
-            ≡ map toCoordinates (cond p (bitXor (SBox b) (Rcon (i / nk)) ∷ bitXor (SBox c) 0 ∷ bitXor (SBox d) 0 ∷ bitXor (SBox a) 0 ∷ []) (cond q (SBox a ∷ SBox b ∷ SBox c ∷ SBox d ∷ []) (a ∷ b ∷ c ∷ d ∷ [])))
+          (cond q (subOut (toCoordinates a) ∷ subOut (toCoordinates b) ∷ subOut (toCoordinates c) ∷ subOut (toCoordinates d) ∷ []) (toCoordinates a ∷ toCoordinates b ∷ toCoordinates c ∷ toCoordinates d ∷ []))
+          ≡ map toCoordinates (cond p (bitXor (SBox b) (Rcon (i / nk)) ∷ bitXor (SBox c) 0 ∷ bitXor (SBox d) 0 ∷ bitXor (SBox a) 0 ∷ []) (cond q (SBox a ∷ SBox b ∷ SBox c ∷ SBox d ∷ []) (a ∷ b ∷ c ∷ d ∷ [])))
       go a b c d ha hb hc hd true q = cons4 (ap (plus (i / nk)) (sub-to b hb) ∙ plus-to (i / nk) (SBox b)) (plain c hc) (plain d hd) (plain a ha)
       go a b c d ha hb hc hd false true = cons4 (sub-to a ha) (sub-to b hb) (sub-to c hc) (sub-to d hd)
       go a b c d ha hb hc hd false false = refl

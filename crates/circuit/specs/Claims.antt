@@ -39,26 +39,26 @@ keyIn κ σ j = byteAt σ (at (cond (ltb j 16) (16 + j) (16 * (rounds κ + 2) + 
 abbrev pub SealStands : List ℕ → KeyKind → Type 0
 SealStands inv κ = (σ : Lane)
     → ((n : ℕ) → n < rounds κ → stateOf (runPlan inv (stagesTo κ n) σ) ≡ map toCoordinates (stateAfter n (stateOf σ) (keysOf κ σ)))
-      × (stateOf (runPlan inv (sealPlan κ) σ) ≡ Cipher (rounds κ) (stateOf σ) (keysOf κ σ))
-      × ((r : ℕ) → at 16 ≤ r → r < at (free κ) → runPlan inv (sealPlan κ) σ r ≡ σ r)
+    × (stateOf (runPlan inv (sealPlan κ) σ) ≡ Cipher (rounds κ) (stateOf σ) (keysOf κ σ))
+    × ((r : ℕ) → at 16 ≤ r → r < at (free κ) → runPlan inv (sealPlan κ) σ r ≡ σ r)
 
 -- the round keys become those of the key, and the state and the key are as they were
 abbrev pub ScheduleStands : List ℕ → KeyKind → Type 0
 ScheduleStands inv κ = (σ : Lane)
     → ((n : ℕ) → n ≤ rounds κ → keysOf κ (runPlan inv (schedulePlan κ) σ) n ≡ sixteen (roundKeyByte (keyWords κ) (keyIn κ σ) n))
-      × ((r : ℕ) → r < at 32 → runPlan inv (schedulePlan κ) σ r ≡ σ r)
-      × ((r : ℕ) → at (16 * (rounds κ + 2)) ≤ r → r < at (free κ) → runPlan inv (schedulePlan κ) σ r ≡ σ r)
+    × ((r : ℕ) → r < at 32 → runPlan inv (schedulePlan κ) σ r ≡ σ r)
+    × ((r : ℕ) → at (16 * (rounds κ + 2)) ≤ r → r < at (free κ) → runPlan inv (schedulePlan κ) σ r ≡ σ r)
 
 -- the block becomes its inverse cipher, and the round keys are as they were
 abbrev pub OpenStands : List ℕ → KeyKind → Type 0
 OpenStands inv κ = (σ : Lane)
     → (stateOf (runPlan inv (openPlan κ) σ) ≡ InvCipher (rounds κ) (stateOf σ) (keysOf κ σ))
-      × ((r : ℕ) → at 16 ≤ r → r < at (free κ) → runPlan inv (openPlan κ) σ r ≡ σ r)
+    × ((r : ℕ) → at 16 ≤ r → r < at (free κ) → runPlan inv (openPlan κ) σ r ≡ σ r)
 
 -- two sockets and at most 256 scratch numbers; in coordinates, wherever its bytes stand apart, the second byte becomes the inverse of the first, which stays
 pub record Inverts (inv : List ℕ) : Type 0 where
   pub two : socketsIn inv ≡ 2
   pub below : T (fitsAll 272 (gatesOf inv))
   pub inverts : (P : List ℕ) → length P ≡ 34 → T (distinct P) → (σ : Lane) (v : ℕ) → v < 256 → ((i : ℕ) → i < 8 → σ (at (getD P 0 0) + i) ≡ bit v i)
-    → ((i : ℕ) → i < 8 → playOn (place P) (gatesOf inv) σ (at (getD P 0 0) + i) ≡ bit v i)
+      → ((i : ℕ) → i < 8 → playOn (place P) (gatesOf inv) σ (at (getD P 0 0) + i) ≡ bit v i)
       × ((i : ℕ) → i < 8 → playOn (place P) (gatesOf inv) σ (at (getD P 1 0) + i) ≡ bit (toCoordinates (inverse (fromCoordinates v))) i)

@@ -26,20 +26,20 @@ within-base : (R q c : ℕ) (bases : List ℕ) → basesAt R q c bases ≡ None 
 unfolding basesAt
 within-base R q c bases fits k l =
     ltb-false R (getD bases k 0 + cond (ltb k q) 8 c)
-      (first-none-at (q + 1) (overruns R q c bases) k
-        (sym (cond-true (eqb (length bases) (q + 1)) (firstBelow (q + 1) (overruns R q c bases)) (Some 17) (eq-eqb (length bases) (q + 1) (bases-count R q c bases fits))) ∙ fits) l)
+    (first-none-at (q + 1) (overruns R q c bases) k
+    (sym (cond-true (eqb (length bases) (q + 1)) (firstBelow (q + 1) (overruns R q c bases)) (Some 17) (eq-eqb (length bases) (q + 1) (bases-count R q c bases fits))) ∙ fits) l)
 
 -- bases that fit in few registers fit in more
 pub bases-more : (R R′ q c : ℕ) (bases : List ℕ) → R ≤ R′ → basesAt R q c bases ≡ None → basesAt R′ q c bases ≡ None
 bases-more R R′ q c bases h fits =
     bases-fit R′ q c bases (bases-count R q c bases fits)
-      (λ k l. le-ltb R′ (getD bases k 0 + cond (ltb k q) 8 c) (let b = within-base R q c bases fits k l in omega arith))
+    (λ k l. le-ltb R′ (getD bases k 0 + cond (ltb k q) 8 c) (let b = within-base R q c bases fits k l in omega arith))
 
 pub accepted : (bytes bases : List ℕ) (m : Model) → whole bytes ≡ true → basesAt (m .registers) (socketsIn bytes) (scratchIn bytes) bases ≡ None → gatesIn bytes ≤ m .left
     → playAnswer m bytes bases ≡ Ok tt
 accepted bytes bases m w fits enough =
     play-accepted bytes (socketsIn bytes) (scratchIn bytes) (kindsIn bytes) (placesIn bytes) w (as-read bytes) bases m fits
-      (omega (arith, kinds-count bytes (socketsIn bytes) (scratchIn bytes) (kindsIn bytes) (placesIn bytes) w (as-read bytes)))
+    (omega (arith, kinds-count bytes (socketsIn bytes) (scratchIn bytes) (kindsIn bytes) (placesIn bytes) w (as-read bytes)))
 
 pub left-after : (bytes bases : List ℕ) (m : Model) → whole bytes ≡ true → played bytes bases m .left ≡ m .left - gatesIn bytes
 left-after bytes bases m w = played-left bytes (socketsIn bytes) (scratchIn bytes) (kindsIn bytes) (placesIn bytes) w (as-read bytes) bases m

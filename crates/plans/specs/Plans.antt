@@ -97,8 +97,8 @@ sumPlan κ i q = map (λ x. Sum (at (home κ (i - keyWords κ) + x) ∷ at (q + 
 abbrev pub wordPlan : KeyKind → ℕ → List Play
 wordPlan κ i =
     cond (eqb (i % keyWords κ) 0)
-      (subPlan κ (home κ (i - 1)) 1 ++ (rconPlay (i / keyWords κ) (at (temp κ) ∷ at (rest κ) ∷ []) ∷ sumPlan κ i (temp κ)))
-      (cond (ltb 6 (keyWords κ) && eqb (i % keyWords κ) 4) (subPlan κ (home κ (i - 1)) 0 ++ sumPlan κ i (temp κ)) (sumPlan κ i (home κ (i - 1))))
+    (subPlan κ (home κ (i - 1)) 1 ++ (rconPlay (i / keyWords κ) (at (temp κ) ∷ at (rest κ) ∷ []) ∷ sumPlan κ i (temp κ)))
+    (cond (ltb 6 (keyWords κ) && eqb (i % keyWords κ) 4) (subPlan κ (home κ (i - 1)) 0 ++ sumPlan κ i (temp κ)) (sumPlan κ i (home κ (i - 1))))
 
 -- the last round key goes back to plain bytes
 abbrev pub leavePlan : KeyKind → List Play

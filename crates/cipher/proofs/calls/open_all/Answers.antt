@@ -12,9 +12,10 @@ use Rattle.cipher.proofs.Stood.{opens, given-from}
 use Rattle.cipher.proofs.calls.open_all.Needs as need
 
 pub ask-and-play-requires : need.ask-and-play-requires
-ask-and-play-requires g c κs =
-    ( ap (fit ownInverter (room aes128)) (c .open-plan .ensures) ∙ open-fit aes128
-    , c .open-gates .ensures .count ∙ ap (planGates ownInverter) (sym (c .open-plan .ensures)) )
+ask-and-play-requires g c κs = (
+  ap (fit ownInverter (room aes128)) (c .open-plan .ensures) ∙ open-fit aes128,
+  c .open-gates .ensures .count ∙ ap (planGates ownInverter) (sym (c .open-plan .ensures)),
+)
 
 pub returns : need.returns
 returns g c =

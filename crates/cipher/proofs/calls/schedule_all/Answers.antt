@@ -12,9 +12,10 @@ use Rattle.cipher.proofs.Stood.{schedules, given-from}
 use Rattle.cipher.proofs.calls.schedule_all.Needs as need
 
 pub ask-and-play-requires : need.ask-and-play-requires
-ask-and-play-requires g c κs =
-    ( ap (fit ownInverter (room aes128)) (c .schedule-plan .ensures) ∙ schedule-fit aes128
-    , c .schedule-gates .ensures .count ∙ ap (planGates ownInverter) (sym (c .schedule-plan .ensures)) )
+ask-and-play-requires g c κs = (
+  ap (fit ownInverter (room aes128)) (c .schedule-plan .ensures) ∙ schedule-fit aes128,
+  c .schedule-gates .ensures .count ∙ ap (planGates ownInverter) (sym (c .schedule-plan .ensures)),
+)
 
 pub returns : need.returns
 returns g c =

@@ -12,9 +12,10 @@ use Rattle.cipher.proofs.Stood.{stages-stand, seals, given-from}
 use Rattle.cipher.proofs.calls.seal_all.Needs as need
 
 pub ask-and-play-requires : need.ask-and-play-requires
-ask-and-play-requires g c κs =
-    ( ap (fit ownInverter (room aes128)) (c .seal-plan .ensures) ∙ seal-fit aes128
-    , c .seal-gates .ensures .count ∙ ap (planGates ownInverter) (sym (c .seal-plan .ensures)) )
+ask-and-play-requires g c κs = (
+  ap (fit ownInverter (room aes128)) (c .seal-plan .ensures) ∙ seal-fit aes128,
+  c .seal-gates .ensures .count ∙ ap (planGates ownInverter) (sym (c .seal-plan .ensures)),
+)
 
 pub returns : need.returns
 returns g c =

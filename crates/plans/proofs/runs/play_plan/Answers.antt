@@ -27,13 +27,14 @@ loop-p-again g c =
     let m = told (g .B·Bench .registers) (g .B·Bench .lanes) (g .B·Bench .left) (g .B·Bench .shows) in
     let inv = c .args .inverter .now in let xs = c .args .plan .now in let i = c .loop-p .p-index in
     let said = c .in-Continue-play .ensures tt in
-    let m′ = m (c .play .last .bench) in
-    ( c .loop-p .inv .0 ∙ answer-goes inv xs i _ (c .loop-p-test .taken) (m (c .loop-p .bench)) (c .page .ensures) (c .bases .ensures) _ (said .answer) m′ (said .leaves)
-    , c .loop-p .inv .1 ∙ carried-goes inv xs i _ (c .loop-p-test .taken) (m (c .loop-p .bench)) (c .page .ensures) (c .bases .ensures) _ (said .answer) m′ (said .leaves)
-        (doPlay inv) (m (c .loop-p .bench)) m′ (sym (said .leaves ∙ ap₂ (λ x y. played x y (m (c .loop-p .bench))) (c .page .ensures) (c .bases .ensures)))
-    , c .loop-p .inv .2 ∙ carried-goes inv xs i _ (c .loop-p-test .taken) (m (c .loop-p .bench)) (c .page .ensures) (c .bases .ensures) _ (said .answer) m′ (said .leaves)
-        (doPlayIn inv) (g .B·Bench .beneath (c .loop-p .bench)) (g .B·Bench .beneath (c .play .last .bench))
-        (sym (said .beneath ∙ ap₂ (λ x y. playedIn x y (g .B·Bench .beneath (c .loop-p .bench))) (c .page .ensures) (c .bases .ensures))) )
+    let m′ = m (c .play .last .bench) in (
+      c .loop-p .inv .0 ∙ answer-goes inv xs i _ (c .loop-p-test .taken) (m (c .loop-p .bench)) (c .page .ensures) (c .bases .ensures) _ (said .answer) m′ (said .leaves),
+      c .loop-p .inv .1 ∙ carried-goes inv xs i _ (c .loop-p-test .taken) (m (c .loop-p .bench)) (c .page .ensures) (c .bases .ensures) _ (said .answer) m′ (said .leaves)
+          (doPlay inv) (m (c .loop-p .bench)) m′ (sym (said .leaves ∙ ap₂ (λ x y. played x y (m (c .loop-p .bench))) (c .page .ensures) (c .bases .ensures))),
+      c .loop-p .inv .2 ∙ carried-goes inv xs i _ (c .loop-p-test .taken) (m (c .loop-p .bench)) (c .page .ensures) (c .bases .ensures) _ (said .answer) m′ (said .leaves)
+          (doPlayIn inv) (g .B·Bench .beneath (c .loop-p .bench)) (g .B·Bench .beneath (c .play .last .bench))
+          (sym (said .beneath ∙ ap₂ (λ x y. playedIn x y (g .B·Bench .beneath (c .loop-p .bench))) (c .page .ensures) (c .bases .ensures))),
+    )
 
 pub returns : need.returns
 returns g c =
