@@ -2,3 +2,4 @@ pub mod Decimals
 pub mod Numbers
 pub mod Pairs
 pub mod Lines
+pub mod Words

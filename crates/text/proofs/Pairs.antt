@@ -10,14 +10,14 @@ use Rattle.std.proofs.shelf.Lists.{drop-more}
 use Rattle.std.proofs.shelf.Tests.{eq-eqb, ne-eqb, cond-true, cond-false}
 use Rattle.std.specs.declared.option.Option.{Option}
 use Rattle.std.specs.declared.option.Option.the-variants.{Some, None}
-use Rattle.text.specs.Text.{hexValue, pairValue, withByte, pairsIn, bytesIn, hexText, hexPairs}
+use Rattle.text.specs.Text.{hexValue, pairValue, withFirst, pairsIn, bytesIn, hexText, hexPairs}
 
 -- bytes read before the others
 abbrev pub prefixed : List ℕ → Option (List ℕ) → Option (List ℕ)
 prefixed bs None = None
 prefixed bs (Some cs) = Some (bs ++ cs)
 
-prefixed-more : (bs : List ℕ) (b : ℕ) (o : Option (List ℕ)) → prefixed bs (withByte (Some b) o) ≡ prefixed (bs ++ (b ∷ [])) o
+pub prefixed-more : (bs : List ℕ) (b : ℕ) (o : Option (List ℕ)) → prefixed bs (withFirst (Some b) o) ≡ prefixed (bs ++ (b ∷ [])) o
 prefixed-more bs b None = refl
 prefixed-more bs b (Some cs) = ap Some (sym (append-assoc bs (b ∷ []) cs))
 
@@ -29,19 +29,19 @@ two-off word i h =
 
 module _ (word : List ℕ) (i : ℕ) (h : 2 * i + 1 < length word) where
   pub pair-more : (bs : List ℕ) (b : ℕ) → pairValue (hexValue (getD word (2 * i) 0)) (hexValue (getD word (2 * i + 1) 0)) ≡ Some b → prefixed bs (pairsIn (drop (2 * i) word)) ≡ prefixed (bs ++ (b ∷ [])) (pairsIn (drop (2 * (i + 1)) word))
-  pair-more bs b e = ap (λ l. prefixed bs (pairsIn l)) (two-off word i h) ∙ ap (λ o. prefixed bs (withByte o (pairsIn (drop (2 * (i + 1)) word)))) e ∙ prefixed-more bs b (pairsIn (drop (2 * (i + 1)) word))
+  pair-more bs b e = ap (λ l. prefixed bs (pairsIn l)) (two-off word i h) ∙ ap (λ o. prefixed bs (withFirst o (pairsIn (drop (2 * (i + 1)) word)))) e ∙ prefixed-more bs b (pairsIn (drop (2 * (i + 1)) word))
 
   pub pair-bad : (bs : List ℕ) → pairValue (hexValue (getD word (2 * i) 0)) (hexValue (getD word (2 * i + 1) 0)) ≡ None → prefixed bs (pairsIn (drop (2 * i) word)) ≡ None
-  pair-bad bs e = ap (λ l. prefixed bs (pairsIn l)) (two-off word i h) ∙ ap (λ o. prefixed bs (withByte o (pairsIn (drop (2 * (i + 1)) word)))) e
+  pair-bad bs e = ap (λ l. prefixed bs (pairsIn l)) (two-off word i h) ∙ ap (λ o. prefixed bs (withFirst o (pairsIn (drop (2 * (i + 1)) word)))) e
 
-with-none : (o : Option ℕ) → withByte o None ≡ None
+with-none : (o : Option ℕ) → withFirst o None ≡ None
 with-none None = refl
 with-none (Some b) = refl
 
 pub pairs-odd : (word : List ℕ) → length word % 2 ≡ 1 → pairsIn word ≡ None
 pairs-odd [] h = absurd (omega arith)
 pairs-odd (a ∷ []) h = refl
-pairs-odd (a ∷ b ∷ bs) h = ap (withByte (pairValue (hexValue a) (hexValue b))) (pairs-odd bs (omega arith)) ∙ with-none (pairValue (hexValue a) (hexValue b))
+pairs-odd (a ∷ b ∷ bs) h = ap (withFirst (pairValue (hexValue a) (hexValue b))) (pairs-odd bs (omega arith)) ∙ with-none (pairValue (hexValue a) (hexValue b))
 
 pub bytes-none : (word : List ℕ) → length word ≡ 0 → bytesIn word ≡ None
 bytes-none [] h = refl

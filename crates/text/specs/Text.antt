@@ -3,6 +3,7 @@
 --   lineOf text, afterLine text   the first line, without the byte 10 that ends it, and what follows that byte
 --   linesIn text                  all the lines; a text that ends with byte 10 has no empty line after that
 --   wordOf line, afterWord line   the first run of bytes other than 32, after any bytes 32, and what follows it
+--   wordsIn line                  all the words
 --   numberIn word                 the number that decimal digits write, below 2 ^ 64
 --   bytesIn word                  the bytes that pairs of lower-case hexadecimal digits write; none for `-`
 --   decimal n                     the decimal digits of n, without leading zeros
@@ -45,6 +46,15 @@ wordOf line = take (before 32 (fromWord line)) (fromWord line)
 abbrev pub afterWord : List ℕ → List ℕ
 afterWord line = drop (before 32 (fromWord line)) (fromWord line)
 
+-- a byte other than 32 put in front of a line, whose words are given: a word of its own, or more of the first
+abbrev pub onWord : ℕ → List ℕ → List (List ℕ) → List (List ℕ)
+onWord b [] ws = (b ∷ []) ∷ ws
+onWord b (c ∷ cs) ws = cond (eqb c 32) ((b ∷ []) ∷ ws) (onFirst b ws)
+
+abbrev pub wordsIn : List ℕ → List (List ℕ)
+wordsIn [] = []
+wordsIn (b ∷ bs) = cond (eqb b 32) (wordsIn bs) (onWord b bs (wordsIn bs))
+
 abbrev pub isDigit : ℕ → Bool
 isDigit b = leb 48 b && leb b 57
 
@@ -69,16 +79,16 @@ pairValue (Some h) (Some l) = Some (h * 16 + l)
 pairValue (Some h) None = None
 pairValue None p = None
 
--- a byte in front of others
-abbrev pub withByte : Option ℕ → Option (List ℕ) → Option (List ℕ)
-withByte (Some b) (Some bs) = Some (b ∷ bs)
-withByte (Some b) None = None
-withByte None o = None
+-- a number in front of others
+abbrev pub withFirst : Option ℕ → Option (List ℕ) → Option (List ℕ)
+withFirst (Some b) (Some bs) = Some (b ∷ bs)
+withFirst (Some b) None = None
+withFirst None o = None
 
 abbrev pub pairsIn : List ℕ → Option (List ℕ)
 pairsIn [] = Some []
 pairsIn (a ∷ []) = None
-pairsIn (a ∷ b ∷ bs) = withByte (pairValue (hexValue a) (hexValue b)) (pairsIn bs)
+pairsIn (a ∷ b ∷ bs) = withFirst (pairValue (hexValue a) (hexValue b)) (pairsIn bs)
 
 abbrev pub bytesIn : List ℕ → Option (List ℕ)
 bytesIn [] = None

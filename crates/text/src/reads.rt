@@ -9,6 +9,7 @@ ghost use Rattle.std.specs.Of.Vec.{vec-items};
 ghost use Rattle.std.specs.Vec.{made};
 ghost use Rattle.std.specs.declared.option.Option.the-variants.{Some, None};
 ghost use Rattle.std.specs.shelf.Lists.{leading};
+ghost use Rattle.std.specs.shelf.Text.{sameBytes};
 ghost use Rattle.text.specs.Text.{before, lineOf, afterLine, wordOf, afterWord, isDigit, numberIn, hexValue, pairValue, pairsIn, bytesIn};
 use std::alloc::AllocError;
 use std::alloc::Global;
@@ -63,6 +64,13 @@ pub fn split_word(line: &[u8]) -> (&[u8], &[u8])
 {
     let (_, from_word) = line.split_at(count_spaces(line));
     from_word.split_at(count_before(from_word, SPACE))
+}
+
+// Whether a word is the given text.
+pub fn is_word(word: &[u8], text: &[u8]) -> bool
+    ensures { λ r. ⌜ r ≡ sameBytes (now (word .entry)) (now (text .entry)) ⌝ }
+{
+    word == text
 }
 
 // One digit more at the end of a number.
