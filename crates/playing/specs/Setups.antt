@@ -78,9 +78,10 @@ abbrev pub opensOne : Single → Model
 opensOne (Word n a) = wordModel (replicate n 0) a
 opensOne (Row w n a) = rowModel (replicate n 0) w a
 
-abbrev pub opensWith : Single → Option Single → Model
-opensWith s None = opensOne s
-opensWith s (Some t) = sideModel (opensOne s) (opensOne t)
+-- a bench of the meaning m with a second one beside it, if any
+abbrev pub beside : Model → Option Single → Model
+beside m None = m
+beside m (Some t) = sideModel m (opensOne t)
 
-unfoldable pub opens : Setup → Model
-opens s = opensWith (s .first) (s .second)
+abbrev pub opens : Setup → Model
+opens s = beside (opensOne (s .first)) (s .second)

@@ -166,10 +166,12 @@ pub fn read_command(heap: Global, line: &[u8]) -> Result<Option<Command>, AllocE
     ensures { λ r. ⌜ made r (λ o. mapped meant o ≡ commandIn (now (line .entry))) ⌝ }
 {
     let (name, rest) = split_word(line);
-    match read_verb(name) {
-        None => Ok(None),
-        Some(Verb::Page) => page_command(heap, rest),
-        Some(verb) => match read_shorts(heap, rest)? {
+    let Some(verb) = read_verb(name) else {
+        return Ok(None);
+    };
+    match verb {
+        Verb::Page => page_command(heap, rest),
+        _ => match read_shorts(heap, rest)? {
             Some(numbers) => Ok(command_of(verb, numbers)),
             None => Ok(None),
         },
