@@ -28,8 +28,8 @@ pub fn is_silent(line: &[u8]) -> bool
     if !line.is_empty() && line[0] == COMMENT {
         return true;
     }
-    let (word, _) = split_word(line);
-    word.is_empty()
+    let (first, _) = split_word(line);
+    first.is_empty()
 }
 
 fn read_verb(word: &[u8]) -> Option<Verb>
