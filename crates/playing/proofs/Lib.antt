@@ -1,0 +1,4 @@
+pub mod Places
+pub mod Benches
+pub mod Written
+pub mod Scripts

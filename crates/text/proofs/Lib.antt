@@ -1,0 +1,5 @@
+pub mod Decimals
+pub mod Numbers
+pub mod Pairs
+pub mod Lines
+pub mod Words
