@@ -111,7 +111,7 @@ impl<'a> Page<'a> {
         })
     }
 
-    pub fn gate(&self, at: usize) -> Gate
+    pub(crate) fn gate(&self, at: usize) -> Gate
         requires { ⌜ at < length (now (now self .kinds)) ⌝ ∗ ⌜ length (now (now self .places)) ≡ 6 * length (now (now self .kinds)) ⌝ }
         ensures { λ r. ⌜ r ≡ gateAt (now (now (self .entry) .kinds)) (now (now (self .entry) .places)) at ⌝ }
     {

@@ -139,7 +139,7 @@ impl<B: Bench> CipherUnit<B> {
         if !self.table.has_placed() {
             return Err(refuse(Question::Work, 0));
         }
-        enough_gates(schedule_gates(), self.bench.left())
+        enough_gates(schedule_gates(), self.left())
     }
 
     fn may_work(&self, cost: u32) -> Result<(), Fault>
@@ -149,10 +149,10 @@ impl<B: Bench> CipherUnit<B> {
         if !self.table.has_block() {
             return Err(refuse(Question::Work, 0));
         }
-        if let Some(lane) = self.table.unready() {
+        if let Some(lane) = self.unready() {
             return Err(refuse(Question::Scheduled, lane));
         }
-        enough_gates(cost, self.bench.left())
+        enough_gates(cost, self.left())
     }
 
     // Writes the lane's round key 0; its key is then placed.
