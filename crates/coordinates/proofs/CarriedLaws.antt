@@ -4,8 +4,8 @@ use Prim.Native.Nat.{ℕ, _<_}
 use lib.Bits.{bitXor}
 use Rattle.standard.specs.Field.{mul, inverse, affine, invAffine}
 use Rattle.standard.specs.KeyExpansion.{Rcon}
-use Rattle.coordinates.specs.Coordinates.{toCoordinates, fromCoordinates}
-use Rattle.coordinates.specs.Carried.{carried, carriedAffine, carriedInvAffine, carriedTimes, carriedInverse, carriedRcon, Carries}
+use Rattle.coordinates.specs.Coordinates.{toCoordinates}
+use Rattle.coordinates.specs.Carried.{carriedAffine, carriedInvAffine, carriedTimes, carriedInverse, carriedRcon, Carries}
 use Rattle.coordinates.proofs.CoordinateLaws.{from-to, to-xor}
 
 pub carries : (f : ℕ → ℕ) → Carries f

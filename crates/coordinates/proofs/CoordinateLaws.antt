@@ -1,9 +1,8 @@
 -- The coordinates: both ways round, and XOR goes through. Assumes nothing.
 use mathlib.Core.Path.{_≡_, refl, sym, ap, ap₂, _∙_}
-use mathlib.Core.Bool.{Bool, true, false, cond}
+use mathlib.Core.Bool.{Bool, cond}
 use mathlib.Core.List.{List, [], _∷_}
 use Prim.Native.Nat.{ℕ, suc, _<_}
-use native.Mathlib.Omega.{arith}
 use lib.Bits.{bitXor, xor-assoc}
 use Rattle.standard.specs.Bits.{bit}
 use Rattle.standard.proofs.BitLaws.{bit-xor, xor-swap, chosen-xor}

@@ -7,7 +7,6 @@
 --   Carries f          the carried rule takes the coordinates of each byte b to those of f b
 use Prim.Native.Nat.{ℕ, _<_}
 use mathlib.Core.Path.{_≡_}
-use lib.Bits.{bitXor}
 use Rattle.standard.specs.Field.{mul, inverse, affine, invAffine}
 use Rattle.standard.specs.KeyExpansion.{Rcon}
 use Rattle.coordinates.specs.Coordinates.{toCoordinates, fromCoordinates}

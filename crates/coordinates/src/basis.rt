@@ -1,6 +1,5 @@
 // From bytes to coordinates and back.
 ghost use mathlib.Core.Path.{_≡_};
-ghost use Prim.Native.Nat.{ℕ, _<_};
 ghost use Rattle.coordinates.specs.Coordinates.{combine, fromCoordinates, toCoordinates, OnlyCoordinates, XorInCoordinates};
 ghost use Rattle.coordinates.specs.Tower.{BasisIsProducts};
 

@@ -1,6 +1,5 @@
 // The inverse of a byte by the tower's formula, from the two parts of the byte.
 ghost use mathlib.Core.Path.{_≡_};
-ghost use Prim.Native.Nat.{ℕ};
 ghost use Rattle.standard.specs.Field.{inverse};
 ghost use Rattle.coordinates.specs.Tower.{power16, firstOf, secondOf, over, gOf, InverseByTower, EveryByteOnce};
 use standard::field;

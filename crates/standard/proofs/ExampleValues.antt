@@ -1,13 +1,13 @@
 -- The standard's own examples, by computing: the expansion once, and the cipher under its words. Assumes nothing.
 use mathlib.Core.Path.{_≡_, refl, sym, ap, _∙_}
-use mathlib.Core.List.{List, [], _∷_}
+use mathlib.Core.List.{List, []}
 use Prim.Native.Nat.{ℕ, _+_, _*_, _/_, _%_, _<_, _≤_}
 use native.Mathlib.Omega.{arith}
 use lib.ListN.{getD}
 use Rattle.standard.specs.Cipher.{Cipher}
 use Rattle.standard.specs.Field.{mul, SBox}
-use Rattle.standard.specs.KeyExpansion.{Word, Rcon, KeyExpansion, wordAt, roundKeyByte}
-use Rattle.standard.specs.Kinds.{KeyKind, aes128, rounds, keyWords, byteAt, sixteen, roundKey, encrypted}
+use Rattle.standard.specs.KeyExpansion.{Word, Rcon, KeyExpansion, roundKeyByte}
+use Rattle.standard.specs.Kinds.{KeyKind, aes128, rounds, byteAt, sixteen, roundKey, encrypted}
 use Rattle.standard.specs.Examples.{exampleKey, exampleWords, exampleBlock, exampleOutput, ExamplesStand}
 use Rattle.standard.proofs.Filling.{sixteen-same}
 use Rattle.standard.proofs.Loops.{same-cipher}

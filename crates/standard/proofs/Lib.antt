@@ -1,6 +1,7 @@
 pub mod BitLaws
 pub mod Tests
 pub mod FieldLaws
+pub mod ProductLaws
 pub mod StateLaws
 pub mod Matrices
 pub mod Rounds

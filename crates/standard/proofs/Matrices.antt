@@ -1,49 +1,20 @@
 -- MixColumns and InvMixColumns undo each other: a column's four sums, and the product of the two matrices. Assumes nothing.
 use mathlib.Core.Path.{_≡_, refl, sym, ap, ap₂, _∙_, subst}
 use mathlib.Core.Bool.{Bool, true, false, cond}
-use mathlib.Core.Logic.{_⊎_, inl, inr}
 use mathlib.Core.List.{List, [], _∷_}
-use Prim.Native.Nat.{ℕ, zero, suc, _+_, _-_, _*_, _%_, _^_, _<_, _≤_}
-use native.Mathlib.Nat.{pow-suc, one-mul}
+use Prim.Native.Nat.{ℕ, zero, suc, _+_, _-_, _*_, _%_, _^_, _<_}
 use native.Mathlib.Omega.{arith}
-use lib.Bits.{bitXor, xor-lt, xor-shifted, xor-self, xor-zero-r}
-use lib.Dec.{T, eqb, eqb→eq}
+use lib.Bits.{bitXor, xor-lt, xor-zero-r}
+use lib.Dec.{T, eqb}
 use lib.ListN.{getD, length}
-use Rattle.std.proofs.shelf.Tests.{cases-lt}
 use Rattle.standard.specs.Field.{mul}
 use Rattle.standard.specs.Columns.{row, entry, rowOf, byColumns, mixing, unmixing}
 use Rattle.standard.specs.Cipher.{MixColumns, InvMixColumns}
 use Rattle.standard.specs.States.{Bytes, State}
 use Rattle.standard.proofs.BitLaws.{xor-swap}
 use Rattle.standard.proofs.FieldLaws.{mul-xor, mul-byte, mul-one}
-use Rattle.standard.proofs.Tests.{tests, tested, tested2, and-l, and-r}
-
--- ---- linear functions that agree at the powers of two agree everywhere
-abbrev pub Linear : (ℕ → ℕ) → Type 0
-Linear f = (a b : ℕ) → f (bitXor a b) ≡ bitXor (f a) (f b)
-
-linear-zero : (f : ℕ → ℕ) → Linear f → f 0 ≡ 0
-linear-zero f l = l 0 0 ∙ xor-self (f 0)
-
-pub linear-agree : (f g : ℕ → ℕ) → Linear f → Linear g → (n : ℕ) → T (tests (λ i. eqb (f (2 ^ i)) (g (2 ^ i))) n) → (v : ℕ) → v < 2 ^ n → f v ≡ g v
-unfolding tests
-linear-agree f g lf lg zero t v h = ap f (none v h) ∙ linear-zero f lf ∙ sym (ap g (none v h) ∙ linear-zero g lg)
-  where
-    none : (v : ℕ) → v < 1 → v ≡ 0
-    none v h = omega arith
-linear-agree f g lf lg (suc n) t v h =
-    let here = eqb (f (2 ^ n)) (g (2 ^ n)) in
-    let below = tests (λ i. eqb (f (2 ^ i)) (g (2 ^ i))) n in
-    go (linear-agree f g lf lg n (and-r here below t)) (eqb→eq (f (2 ^ n)) (g (2 ^ n)) (and-l here below t)) (cases-lt v (2 ^ n))
-  where
-    go : ((u : ℕ) → u < 2 ^ n → f u ≡ g u) → f (2 ^ n) ≡ g (2 ^ n) → (v < 2 ^ n) ⊎ (2 ^ n ≤ v) → f v ≡ g v
-    go low top (inl lt) = low v lt
-    go low top (inr le) =
-        let u = v - 2 ^ n in
-        let small : u < 2 ^ n = omega (arith, pow-suc 2 n) in
-        let whole : v ≡ 1 * 2 ^ n + u = omega arith in
-        let parts : v ≡ bitXor (2 ^ n) u = whole ∙ sym (xor-shifted 1 n u small) ∙ ap (λ (x : ℕ). bitXor x u) (one-mul (2 ^ n)) in
-        ap f parts ∙ lf (2 ^ n) u ∙ ap₂ bitXor top (low u small) ∙ sym (ap g parts ∙ lg (2 ^ n) u)
+use Rattle.standard.proofs.ProductLaws.{Linear, linear-agree}
+use Rattle.standard.proofs.Tests.{tests, tested2, equal-below}
 
 -- ---- a sum of four products, and columns of four
 row-xor : (k l m n a b c d a′ b′ c′ d′ : ℕ) → row k l m n (bitXor a a′) (bitXor b b′) (bitXor c c′) (bitXor d d′) ≡ bitXor (row k l m n a b c d) (row k l m n a′ b′ c′ d′)
@@ -63,7 +34,7 @@ rowOf-xor cs i = row-xor (entry cs i 0) (entry cs i 1) (entry cs i 2) (entry cs 
 
 through-linear : (cs ds : List ℕ) (i j : ℕ) → Linear (through cs ds i j)
 unfolding through
-through-linear cs ds i j a b =
+through-linear cs ds i j a b ha hb =
     (λ t. rowOf cs i (mul-xor (entry ds 0 j) a b t) (mul-xor (entry ds 1 j) a b t) (mul-xor (entry ds 2 j) a b t) (mul-xor (entry ds 3 j) a b t))
     ∙ rowOf-xor cs i (mul (entry ds 0 j) a) (mul (entry ds 1 j) a) (mul (entry ds 2 j) a) (mul (entry ds 3 j) a) (mul (entry ds 0 j) b) (mul (entry ds 1 j) b) (mul (entry ds 2 j) b) (mul (entry ds 3 j) b)
 
@@ -86,7 +57,7 @@ abbrev kept : ℕ → ℕ → ℕ → ℕ
 kept i j v = cond (eqb i j) v 0
 
 kept-linear : (i j : ℕ) → Linear (kept i j)
-kept-linear i j a b = go (eqb i j)
+kept-linear i j a b ha hb = go (eqb i j)
   where
     go : (q : Bool) → cond q (bitXor a b) 0 ≡ bitXor (cond q a 0) (cond q b 0)
     go true = refl
@@ -101,8 +72,8 @@ module _ (cs ds : List ℕ) (test : T (undoes cs ds)) where
   through-kept : (i j v : ℕ) → i < 4 → j < 4 → v < 256 → through cs ds i j v ≡ kept i j v
   unfolding undoes
   through-kept i j v hi hj hv =
-      linear-agree (through cs ds i j) (kept i j) (through-linear cs ds i j) (kept-linear i j) 8
-      (tested2 (λ i j. tests (λ s. eqb (through cs ds i j (2 ^ s)) (kept i j (2 ^ s))) 8) 4 4 test i j hi hj) v hv
+      linear-agree (through cs ds i j) (kept i j) (through-linear cs ds i j) (kept-linear i j)
+      (equal-below (λ s. through cs ds i j (2 ^ s)) (λ s. kept i j (2 ^ s)) 8 (tested2 (λ i j. tests (λ s. eqb (through cs ds i j (2 ^ s)) (kept i j (2 ^ s))) 8) 4 4 test i j hi hj)) v hv
 
   -- byte i of a column comes back
   row-back : (i a b c d : ℕ) → i < 4 → a < 256 → b < 256 → c < 256 → d < 256

@@ -1,10 +1,10 @@
 -- The states of the two ciphers are bytes, and each cipher undoes the other, round by round. Assumes nothing.
-use mathlib.Core.Path.{_≡_, refl, sym, ap, ap₂, _∙_, subst}
+use mathlib.Core.Path.{_≡_, ap, ap₂, _∙_}
 use mathlib.Core.List.{List}
 use Prim.Native.Nat.{ℕ, zero, suc, _+_, _-_, _≤_}
 use native.Mathlib.Omega.{arith}
 use Rattle.standard.specs.Cipher.{SubBytes, ShiftRows, MixColumns, AddRoundKey, Round, stateAfter, Cipher, InvSubBytes, InvShiftRows, InvMixColumns, invStateAfter, InvCipher}
-use Rattle.standard.specs.States.{Bytes, State, RoundKeys}
+use Rattle.standard.specs.States.{State, RoundKeys}
 use Rattle.standard.specs.Undoing.{InvCipherUndoesCipher, CipherUndoesInvCipher}
 use Rattle.standard.proofs.StateLaws.{sub-state, invSub-state, shift-state, invShift-state, add-state, invSub-sub, sub-invSub, invShift-shift, shift-invShift, add-add}
 use Rattle.standard.proofs.Matrices.{mix-state, invMix-state, invMix-mix, mix-invMix}

@@ -1,7 +1,7 @@
 -- Each step of the cipher takes states to states, and each but MixColumns is undone. Assumes nothing.
-use mathlib.Core.Path.{_≡_, refl, sym, ap, ap₂, _∙_}
+use mathlib.Core.Path.{_≡_, refl, sym, ap₂, _∙_}
 use mathlib.Core.List.{List, [], _∷_, map}
-use Prim.Native.Nat.{ℕ, zero, suc, _+_, _*_, _%_, _<_}
+use Prim.Native.Nat.{ℕ, zero, suc, _*_, _%_, _<_}
 use native.Mathlib.Omega.{arith}
 use lib.Bits.{bitXor, xor-lt}
 use lib.ListN.{getD, length}
@@ -9,12 +9,12 @@ use Rattle.std.specs.Iters.{counting}
 use Rattle.std.proofs.shelf.Lists.{length-map}
 use Rattle.std.proofs.shelf.Counted.{fill-by-all}
 use Rattle.std.proofs.shelf.Lanes.{length-zip2}
-use Rattle.standard.specs.Field.{mul, SBox, InvSBox}
-use Rattle.standard.specs.Cipher.{SubBytes, ShiftRows, MixColumns, AddRoundKey, Round, InvSubBytes, InvShiftRows, InvMixColumns}
+use Rattle.standard.specs.Field.{SBox, InvSBox}
+use Rattle.standard.specs.Cipher.{SubBytes, ShiftRows, AddRoundKey, InvSubBytes, InvShiftRows}
 use Rattle.standard.specs.Kinds.{sixteen}
 use Rattle.standard.specs.States.{Bytes, State}
 use Rattle.standard.proofs.BitLaws.{xor-undo}
-use Rattle.standard.proofs.FieldLaws.{SBox-byte, InvSBox-byte, InvSBox-SBox, SBox-InvSBox, mul-byte}
+use Rattle.standard.proofs.FieldLaws.{SBox-byte, InvSBox-byte, InvSBox-SBox, SBox-InvSBox}
 
 -- ---- bytes of a list
 pub bytes-at : (xs : List ℕ) → Bytes xs → (j : ℕ) → getD xs j 0 < 256

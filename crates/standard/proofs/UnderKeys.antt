@@ -1,9 +1,7 @@
 -- Under the round keys of any key the two ciphers undo each other and give states. Assumes nothing.
-use mathlib.Core.Path.{_≡_}
 use mathlib.Core.List.{List}
-use Prim.Native.Nat.{ℕ, _<_, _≤_}
+use Prim.Native.Nat.{ℕ, _≤_}
 use lib.Dec.{lit≤}
-use lib.ListN.{getD}
 use Rattle.standard.specs.KeyExpansion.{roundKeyByte}
 use Rattle.standard.specs.Kinds.{KeyKind, aes128, rounds, keyWords, byteAt, roundKey, encrypted, decrypted}
 use Rattle.standard.specs.States.{Bytes, State, RoundKeys}

@@ -1,19 +1,18 @@
 -- The expansion of a key of four words byte by byte. Assumes nothing.
-use mathlib.Core.Path.{_≡_, refl, sym, ap, ap₂, _∙_, subst}
+use mathlib.Core.Path.{_≡_, refl, sym, ap, ap₂, _∙_}
 use mathlib.Core.Bool.{Bool, true, false, cond}
-use mathlib.Core.List.{List, [], _∷_}
+use mathlib.Core.List.{List}
 use Prim.Native.Nat.{ℕ, zero, suc, _+_, _-_, _*_, _/_, _%_, _<_, _≤_}
 use native.Mathlib.Omega.{arith}
 use borrow.Author.Tests.{eq-eqb}
 use lib.Bits.{bitXor, xor-zero-r}
 use lib.Dec.{eqb}
 use lib.ListN.{getD, length}
-use Rattle.std.specs.Iters.{counting}
 use Rattle.std.proofs.shelf.Counted.{fill-by-all}
 use Rattle.std.proofs.shelf.Lanes.{getD-zip2, length-zip2}
 use Rattle.standard.specs.Field.{SBox}
-use Rattle.standard.specs.KeyExpansion.{Word, RotWord, SubWord, xorWord, Rcon, rconWord, temp, keyWord, wordAt, roundKeyByte}
-use Rattle.standard.specs.Kinds.{byteAt, keyIn, roundKey, aes128, sixteen}
+use Rattle.standard.specs.KeyExpansion.{Word, RotWord, SubWord, xorWord, rconWord, temp, keyWord, wordAt, roundKeyByte}
+use Rattle.standard.specs.Kinds.{byteAt, keyIn, roundKey, aes128}
 use Rattle.standard.proofs.Filling.{sixteen-same}
 use Rattle.standard.proofs.Words.{first-words, later-words}
 

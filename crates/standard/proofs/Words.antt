@@ -11,7 +11,7 @@ use Rattle.std.specs.Iters.{counting}
 use Rattle.std.proofs.shelf.Lists.{getD-append-left, getD-append-right, length-append, length-map}
 use Rattle.std.proofs.shelf.Counted.{getD-map-counting, length-counting}
 use Rattle.standard.specs.Field.{SBox, xtime}
-use Rattle.standard.specs.KeyExpansion.{Word, RotWord, SubWord, xorWord, Rcon, rconWord, temp, keyWord, KeyExpansion, wordAt, roundKeyByte, Expands}
+use Rattle.standard.specs.KeyExpansion.{Word, RotWord, SubWord, xorWord, Rcon, rconWord, temp, keyWord, KeyExpansion, wordAt, roundKeyByte}
 use Rattle.standard.specs.States.{Bytes}
 use Rattle.standard.specs.Undoing.{WordsExpand}
 use Rattle.standard.proofs.FieldLaws.{SBox-byte, xtime-byte}

@@ -1,5 +1,6 @@
 pub mod Bits
 pub mod Field
+pub mod Laws
 pub mod Cipher
 pub mod Columns
 pub mod KeyExpansion

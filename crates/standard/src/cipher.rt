@@ -1,6 +1,6 @@
 // The cipher and the inverse cipher of FIPS 197 under eleven round keys, which stand one after another.
 ghost use mathlib.Core.Path.{_≡_};
-ghost use Prim.Native.Nat.{ℕ, _<_};
+ghost use Prim.Native.Nat.{_<_};
 ghost use Rattle.standard.specs.Cipher.{Round, AddRoundKey, InvSubBytes, InvShiftRows, InvMixColumns};
 ghost use Rattle.standard.specs.Kinds.{aes128, keyIn, ciphered, deciphered, encrypted, decrypted};
 use crate::expansion::key_expansion;

@@ -1,6 +1,7 @@
 // The field of FIPS 197 and the substitution of a byte, as the standard's definitions compute them.
 ghost use mathlib.Core.Path.{_≡_};
-ghost use Prim.Native.Nat.{ℕ, _<_};
+ghost use Prim.Native.Nat.{_<_};
+ghost use Rattle.standard.specs.Laws.{ProductLaws};
 ghost use Rattle.standard.specs.Field.{xtime, mul, inverse, rotl, affine, invAffine, SBox, InvSBox};
 
 // A byte times 02.
@@ -26,6 +27,11 @@ pub fn mul(a: u8, b: u8) -> u8
     }
     product
 }
+
+// The laws of the product.
+pub fn product_laws()
+    ensures { λ _. ⌜ ProductLaws ⌝ }
+{}
 
 // The inverse of a byte, its 254th power; 00 stays.
 pub fn inverse(a: u8) -> u8

@@ -1,5 +1,4 @@
 use mathlib.Core.Path.{_≡_, ap, _∙_}
-use Prim.Native.Nat.{ℕ}
 use Rattle.standard.specs.Field.{invAffine}
 use Rattle.coordinates.specs.Coordinates.{toCoordinates}
 use Rattle.coordinates.specs.Carried.{carriedInvAffine}

@@ -2,7 +2,7 @@ use mathlib.Core.Path.{_≡_, sym, ap, ap₂, _∙_}
 use native.Mathlib.Omega.{arith}
 use Rattle.standard.specs.Field.{mul, inverse}
 use Rattle.standard.proofs.FieldLaws.{inverse-zero}
-use Rattle.coordinates.specs.Tower.{firstOf, secondOf, over, gOf}
+use Rattle.coordinates.specs.Tower.{over, gOf}
 use Rattle.coordinates.proofs.TowerLaws.{inverse-by-pair, inverse-tower, every-byte}
 use Rattle.coordinates.proofs.tower.inverse_by_tower.Needs as need
 

@@ -1,4 +1,4 @@
-use mathlib.Core.Path.{_≡_, ap₂, _∙_}
+use mathlib.Core.Path.{ap₂, _∙_}
 use Rattle.standard.specs.Field.{mul}
 use Rattle.coordinates.specs.Tower.{power16}
 use Rattle.coordinates.proofs.tower.middle_power.Needs as need

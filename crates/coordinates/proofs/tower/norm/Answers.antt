@@ -1,4 +1,4 @@
-use mathlib.Core.Path.{_≡_, ap, ap₂, _∙_}
+use mathlib.Core.Path.{ap, ap₂, _∙_}
 use lib.Bits.{bitXor}
 use Rattle.standard.specs.Field.{mul}
 use Rattle.coordinates.specs.Tower.{gOf}

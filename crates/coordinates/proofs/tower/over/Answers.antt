@@ -1,4 +1,4 @@
-use mathlib.Core.Path.{_≡_, ap₂}
+use mathlib.Core.Path.{ap₂}
 use lib.Bits.{bitXor}
 use Rattle.coordinates.specs.Tower.{over}
 use Rattle.coordinates.proofs.tower.over.Needs as need

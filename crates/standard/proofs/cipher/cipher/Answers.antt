@@ -1,8 +1,7 @@
 use mathlib.Core.Path.{_≡_, ap, ap₂, _∙_}
 use native.Mathlib.Omega.{arith}
-use Prim.Native.Nat.{ℕ}
-use Rattle.standard.specs.Cipher.{AddRoundKey, ShiftRows, SubBytes, stateAfter}
-use Rattle.standard.specs.Kinds.{aes128, keyIn, ciphered, deciphered}
+use Rattle.standard.specs.Cipher.{AddRoundKey, ShiftRows}
+use Rattle.standard.specs.Kinds.{aes128, ciphered, deciphered}
 use Rattle.standard.proofs.StateLaws.{bytes-from}
 use Rattle.standard.proofs.Loops.{round-more, ciphered-last, deciphered-ciphered}
 use Rattle.standard.proofs.cipher.cipher.Needs as need

@@ -1,8 +1,7 @@
 use mathlib.Core.Path.{_≡_, ap, ap₂, _∙_}
 use native.Mathlib.Omega.{arith}
-use Prim.Native.Nat.{ℕ}
-use Rattle.standard.specs.Cipher.{AddRoundKey, InvShiftRows, InvSubBytes, invStateAfter}
-use Rattle.standard.specs.Kinds.{aes128, keyIn, ciphered, deciphered}
+use Rattle.standard.specs.Cipher.{AddRoundKey, InvSubBytes}
+use Rattle.standard.specs.Kinds.{aes128, ciphered, deciphered}
 use Rattle.standard.proofs.StateLaws.{bytes-from}
 use Rattle.standard.proofs.Loops.{invRound-more, deciphered-last, ciphered-deciphered}
 use Rattle.standard.proofs.cipher.inv_cipher.Needs as need

@@ -1,4 +1,4 @@
-use Prim.Native.Nat.{ℕ, _+_, _*_}
+use Prim.Native.Nat.{_+_, _*_}
 use lib.ListN.{getD}
 use Rattle.standard.proofs.Filling.{Filled}
 use Rattle.standard.proofs.cipher.key_in.Given as given

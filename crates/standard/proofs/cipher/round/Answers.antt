@@ -1,4 +1,4 @@
-use mathlib.Core.Path.{_≡_, ap, ap₂, _∙_}
+use mathlib.Core.Path.{ap, ap₂, _∙_}
 use Rattle.standard.specs.Cipher.{AddRoundKey, MixColumns, ShiftRows}
 use Rattle.standard.proofs.cipher.round.Needs as need
 

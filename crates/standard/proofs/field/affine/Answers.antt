@@ -1,4 +1,4 @@
-use mathlib.Core.Path.{_≡_, ap, ap₂}
+use mathlib.Core.Path.{ap, ap₂}
 use Prim.Native.Nat.{ℕ}
 use lib.Bits.{bitXor}
 use Rattle.standard.specs.Field.{affine}

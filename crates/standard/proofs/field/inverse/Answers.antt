@@ -1,6 +1,6 @@
-use mathlib.Core.Path.{_≡_, refl, ap, ap₂, _∙_}
+use mathlib.Core.Path.{_≡_, ap, ap₂, _∙_}
 use native.Mathlib.Omega.{arith}
-use Prim.Native.Nat.{ℕ, _<_}
+use Prim.Native.Nat.{_<_}
 use Rattle.standard.specs.Field.{mul, inverse}
 use Rattle.standard.proofs.FieldLaws.{inverse-inverts, inverse-zero}
 use Rattle.standard.proofs.field.inverse.Needs as need

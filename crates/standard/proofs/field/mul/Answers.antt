@@ -5,7 +5,7 @@ use native.Mathlib.Omega.{arith}
 use lib.Bits.{bitXor, xor-zero-r}
 use borrow.Author.Tests.{eq-eqb, ne-eqb}
 use Rattle.standard.specs.Bits.{odd}
-use Rattle.standard.specs.Field.{xtime, mul, mulBy}
+use Rattle.standard.specs.Field.{mul, mulBy}
 use Rattle.standard.proofs.FieldLaws.{mulBy-step}
 use Rattle.standard.proofs.field.mul.Needs as need
 use Rattle.standard.proofs.field.mul.Needs.{then-rest-eq1, else-rest-eq1}

@@ -1,10 +1,8 @@
-use mathlib.Core.Path.{_≡_, refl, sym, ap, ap₂, _∙_}
-use Prim.Native.Nat.{ℕ, _+_, _*_, _/_, _%_}
+use mathlib.Core.Path.{refl, sym, ap₂, _∙_}
 use native.Mathlib.Omega.{arith}
 use lib.ListN.{getD}
 use lib.Bits.{bitXor}
-use Rattle.standard.specs.Cipher.{SubBytes, InvSubBytes, AddRoundKey}
-use Rattle.standard.specs.Columns.{byColumns}
+use Rattle.standard.specs.Cipher.{AddRoundKey}
 use Rattle.standard.proofs.Filling.{filled-more, filled-all}
 use Rattle.standard.proofs.StateLaws.{sixteen-at}
 use Rattle.standard.proofs.steps.add_round_key.Needs as need

@@ -1,4 +1,3 @@
-use Prim.Native.Nat.{ℕ, _+_, _*_, _/_, _%_}
 use lib.Bits.{bitXor}
 use lib.ListN.{getD}
 use Rattle.standard.proofs.Filling.{Filled}

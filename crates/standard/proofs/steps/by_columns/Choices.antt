@@ -1,5 +1,4 @@
-use Prim.Native.Nat.{ℕ, _+_, _*_, _/_, _%_}
-use lib.Bits.{bitXor}
+use Prim.Native.Nat.{_+_, _*_, _/_, _%_}
 use lib.ListN.{getD}
 use Rattle.standard.specs.Columns.{rowOf}
 use Rattle.standard.proofs.Filling.{Filled}

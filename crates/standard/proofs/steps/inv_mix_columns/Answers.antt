@@ -1,4 +1,4 @@
-use mathlib.Core.Path.{_≡_, sym, _∙_}
+use mathlib.Core.Path.{sym, _∙_}
 use Rattle.standard.proofs.Matrices.{invMix-is}
 use Rattle.standard.proofs.steps.inv_mix_columns.Needs as need
 

@@ -1,11 +1,8 @@
-use mathlib.Core.Path.{_≡_, refl, sym, ap, ap₂, _∙_}
-use Prim.Native.Nat.{ℕ, _+_, _*_, _/_, _%_}
+use mathlib.Core.Path.{refl, sym, ap, _∙_}
 use native.Mathlib.Omega.{arith}
 use lib.ListN.{getD}
-use lib.Bits.{bitXor}
 use Rattle.standard.specs.Field.{InvSBox}
-use Rattle.standard.specs.Cipher.{SubBytes, InvSubBytes, AddRoundKey}
-use Rattle.standard.specs.Columns.{byColumns}
+use Rattle.standard.specs.Cipher.{InvSubBytes}
 use Rattle.standard.proofs.Filling.{filled-more, filled-all}
 use Rattle.standard.proofs.StateLaws.{sixteen-at}
 use Rattle.standard.proofs.steps.inv_sub_bytes.Needs as need

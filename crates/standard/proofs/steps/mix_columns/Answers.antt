@@ -1,4 +1,4 @@
-use mathlib.Core.Path.{_≡_, sym, _∙_}
+use mathlib.Core.Path.{sym, _∙_}
 use Rattle.standard.proofs.Matrices.{mix-is}
 use Rattle.standard.proofs.StateLaws.{bytes-from}
 use Rattle.standard.proofs.steps.mix_columns.Needs as need
