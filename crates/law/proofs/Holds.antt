@@ -29,7 +29,7 @@ use Rattle.unit.specs.View.{View, Shape, shape, made}
 use Rattle.unit.specs.Lanes.{stateOf, keyOf, roundShown}
 use Rattle.unit.specs.Answers.{settled}
 use Rattle.unit.proofs.Bytes.{shown-state, shown-key, same-state, same-key, same-rounds}
-use Rattle.unit.proofs.Ciphers.{same-cipher, same-inv-cipher}
+use Rattle.standard.proofs.Loops.{same-cipher, same-invCipher}
 use Rattle.unit.proofs.Planned.{planned-lanes, plan-expands, plan-enciphers, plan-deciphers}
 use Rattle.unit.proofs.Settled.{naming-tells, placing-tells, reading-tells, scheduling-tells, working-tells}
 use Rattle.law.specs.Calls.{Asked, place-key, place-block, clear, schedule, seal, unseal, read, counts, left, record-of, unready as unready-lane, accepted, told, answered, answer, refusal, performed, next, done, filled}
@@ -136,11 +136,11 @@ turned-block f F is Scheduled true st key w p q ready h b = (λ i. through F (h 
 
 by-cipher : (k b : List ℕ) (w : ℕ → List ℕ) → ((n : ℕ) → n ≤ rounds kind → w n ≡ roundKey kind k n) → encrypted kind k b ≡ Cipher (rounds kind) b w
 unfolding encrypted
-by-cipher k b w e = sym (same-cipher b w (roundKey kind k) e)
+by-cipher k b w e = sym (same-cipher (rounds kind) b w (roundKey kind k) e)
 
 by-inv-cipher : (k b : List ℕ) (w : ℕ → List ℕ) → ((n : ℕ) → n ≤ rounds kind → w n ≡ roundKey kind k n) → decrypted kind k b ≡ InvCipher (rounds kind) b w
 unfolding decrypted
-by-inv-cipher k b w e = sym (same-inv-cipher b w (roundKey kind k) e)
+by-inv-cipher k b w e = sym (same-invCipher (rounds kind) b w (roundKey kind k) e)
 
 within : (v : View) (b : Book) (l : ℕ) → Holds v b → l < v .model .lanes → v .model .lanes ≤ 128 → l < length (v .records)
 within v b l h lt le = let s = h .size in omega arith

@@ -1,5 +1,4 @@
 pub mod Scans
 pub mod Settled
 pub mod Bytes
-pub mod Ciphers
 pub mod Planned

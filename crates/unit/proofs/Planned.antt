@@ -41,7 +41,7 @@ use Rattle.unit.specs.Works.{kind, worked, gatesOfPlan}
 use Rattle.unit.specs.Lanes.{stateOf, keyOf, roundShown, KeysStay, Expanded, Enciphered, Deciphered, Staged, EveryLane}
 use Rattle.unit.specs.Answers.{fits}
 use Rattle.unit.proofs.Bytes.{same-state, same-rounds, same-key, round-key-of}
-use Rattle.unit.proofs.Ciphers.{same-cipher, same-inv-cipher}
+use Rattle.standard.proofs.Loops.{same-cipher, same-invCipher}
 
 -- ---- the size of a bench, and its gates, after a plan
 
@@ -115,7 +115,7 @@ plan-enciphers m l h =
       keys = d .1;
       undone = open-does m′ l (after-plan (sealPlan kind) m l h) .0
           ∙ ap (λ (x : List ℕ). InvCipher (rounds kind) x (roundShown m′ l)) (d .0)
-          ∙ same-inv-cipher (Cipher (rounds kind) (stateOf m l) (roundShown m l)) (roundShown m′ l) (roundShown m l) (d .1 .all)
+          ∙ same-invCipher (rounds kind) (Cipher (rounds kind) (stateOf m l) (roundShown m l)) (roundShown m′ l) (roundShown m l) (d .1 .all)
           ∙ invCipher-cipher (rounds kind) (omega arith) (stateOf m l) (roundShown m l) (state-bytes m l) (round-bytes m l);
     }
 
@@ -128,7 +128,7 @@ plan-deciphers m l h =
       keys = d .1;
       undone = seal-does m′ l (after-plan (openPlan kind) m l h) .0
           ∙ ap (λ (x : List ℕ). Cipher (rounds kind) x (roundShown m′ l)) (d .0)
-          ∙ same-cipher (InvCipher (rounds kind) (stateOf m l) (roundShown m l)) (roundShown m′ l) (roundShown m l) (d .1 .all)
+          ∙ same-cipher (rounds kind) (InvCipher (rounds kind) (stateOf m l) (roundShown m l)) (roundShown m′ l) (roundShown m l) (d .1 .all)
           ∙ cipher-invCipher (rounds kind) (omega arith) (stateOf m l) (roundShown m l) (state-bytes m l) (round-bytes m l);
     }
 
