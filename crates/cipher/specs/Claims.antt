@@ -11,8 +11,7 @@ use lib.Dec.{leb, ltb}
 use Rattle.std.specs.declared.result.Result.{Result}
 use Rattle.std.specs.declared.result.Result.the-variants.{Ok, Err}
 use Rattle.standard.specs.Cipher.{stateAfter, Cipher, InvCipher}
-use Rattle.standard.specs.KeyExpansion.{roundKeyByte}
-use Rattle.standard.specs.Kinds.{KeyKind, rounds, keyWords, sixteen}
+use Rattle.standard.specs.Kinds.{KeyKind, rounds, roundKey}
 use Rattle.coordinates.specs.Coordinates.{toCoordinates}
 use Rattle.bench.specs.declared.faults.Question.the-variants.{Size, Gates}
 use Rattle.bench.specs.declared.faults.Part.the-variants.{Unit as UnitPart}
@@ -24,7 +23,7 @@ use Rattle.plans.specs.Layout.{at, free, room}
 use Rattle.plans.specs.Plays.{planned, planGates}
 use Rattle.plans.specs.Plans.{stagesTo}
 use Rattle.circuit.specs.Lanes.{laneOf}
-use Rattle.circuit.specs.Claims.{stateOf, keysOf, keyIn}
+use Rattle.circuit.specs.Claims.{stateOf, keysOf, keyOf}
 
 -- at least so many registers, and 1 to 128 lanes
 abbrev pub sized : KeyKind → ℕ → ℕ → Bool
@@ -47,7 +46,7 @@ Fallen n m m′ = m′ .left + n ≡ m .left
 -- the round keys become those of the key, and the state and the key are as they were
 abbrev pub Schedules : KeyKind → Model → Model → Type 0
 Schedules κ m m′ = (l : ℕ) → l < m .lanes
-    → ((n : ℕ) → n ≤ rounds κ → keysOf κ (laneOf m′ l) n ≡ sixteen (roundKeyByte (keyWords κ) (keyIn κ (laneOf m l)) n))
+    → ((n : ℕ) → n ≤ rounds κ → keysOf κ (laneOf m′ l) n ≡ roundKey κ (keyOf κ (laneOf m l)) n)
     × ((r : ℕ) → r < at 32 → m′ .bit r l ≡ m .bit r l)
     × ((r : ℕ) → at (16 * (rounds κ + 2)) ≤ r → r < at (free κ) → m′ .bit r l ≡ m .bit r l)
 

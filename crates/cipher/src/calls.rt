@@ -12,8 +12,8 @@ use bench::benches::Bench;
 use bench::faults::Fault;
 use bench::faults::Part;
 use bench::faults::Question;
-use plans::pages::INVERT;
 use plans::plays::Play;
+use plans::plays::own_inverter;
 use plans::runs::play_plan;
 use plans::tables::least_registers;
 use plans::tables::open_gates;
@@ -48,7 +48,7 @@ fn ask_and_play<B: Bench>(bench: &mut B, plan: &[Play], needed: u32) -> Result<(
     if left < needed {
         return Err(Fault::gates(Part::Unit, needed - left));
     }
-    play_plan(bench, &INVERT, plan)
+    play_plan(bench, own_inverter(), plan)
 }
 
 // The key of each lane becomes its round keys.

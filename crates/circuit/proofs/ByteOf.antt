@@ -12,20 +12,20 @@ use Rattle.std.proofs.shelf.Lanes.{bit-maskL, maskL-lt}
 use Rattle.std.proofs.shelf.Counted.{getD-map-counting}
 use Rattle.standard.specs.Bits.{bit, odd}
 use Rattle.circuit.specs.Lanes.{Lane}
-use Rattle.circuit.specs.Places.{byteAt}
+use Rattle.circuit.specs.Places.{shownByte}
 use Rattle.circuit.proofs.Tests256.{tests, equal-below}
 
-pub byteAt-small : (σ : Lane) (base : ℕ) → byteAt σ base < 256
-unfolding byteAt
-byteAt-small σ base = maskL-lt (map (λ i. σ (base + i)) (counting 0 8))
+pub shownByte-small : (σ : Lane) (base : ℕ) → shownByte σ base < 256
+unfolding shownByte
+shownByte-small σ base = maskL-lt (map (λ i. σ (base + i)) (counting 0 8))
 
 is-one : (b : Bool) → eqb (cond b 1 0) 1 ≡ b
 is-one true = refl
 is-one false = refl
 
-pub byteAt-bit : (σ : Lane) (base i : ℕ) → i < 8 → bit (byteAt σ base) i ≡ σ (base + i)
-unfolding byteAt bit
-byteAt-bit σ base i h =
+pub shownByte-bit : (σ : Lane) (base i : ℕ) → i < 8 → bit (shownByte σ base) i ≡ σ (base + i)
+unfolding shownByte bit
+shownByte-bit σ base i h =
     let ms = map (λ i. σ (base + i)) (counting 0 8) in
     ap (λ (x : ℕ). eqb x 1) (bit-maskL ms i) ∙ is-one (getD ms i false) ∙ getD-map-counting (λ i. σ (base + i)) 0 8 i i false h (omega arith)
 
@@ -37,6 +37,6 @@ rebuilt : (v : ℕ) → v < 256 → maskL (map (bit v) (counting 0 8)) ≡ v
 unfolding tests bit
 rebuilt = equal-below (λ v. maskL (map (bit v) (counting 0 8))) (λ v. v) 256 tt
 
-pub byteAt-is : (σ : Lane) (base v : ℕ) → v < 256 → ((i : ℕ) → i < 8 → σ (base + i) ≡ bit v i) → byteAt σ base ≡ v
-unfolding byteAt
-byteAt-is σ base v h e = ap maskL (map-below (λ i. σ (base + i)) (bit v) 0 8 (λ i lo hi. e i hi)) ∙ rebuilt v h
+pub shownByte-is : (σ : Lane) (base v : ℕ) → v < 256 → ((i : ℕ) → i < 8 → σ (base + i) ≡ bit v i) → shownByte σ base ≡ v
+unfolding shownByte
+shownByte-is σ base v h e = ap maskL (map-below (λ i. σ (base + i)) (bit v) 0 8 (λ i lo hi. e i hi)) ∙ rebuilt v h

@@ -27,5 +27,6 @@ pub mod KeyMath
 pub mod Expand
 pub mod KeyStages
 pub mod Words
+pub mod UnderKeys
 pub mod KeyStands
 pub mod Lanes

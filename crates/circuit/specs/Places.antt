@@ -1,6 +1,6 @@
 -- Whole bytes of registers: byte b is registers 8·b to 8·b + 7, bit 0 first. Assumes nothing.
 --
---   byteAt σ r   the byte that the eight registers from r on show in a lane
+--   shownByte σ r   the byte that the eight registers from r on show in a lane
 --   place P n    number n of a page whose byte l stands at byte P(l)
 --   fitsAll n    each number of each gate is below n
 use Prim.Native.Nat.{ℕ, _+_, _*_, _/_, _%_}
@@ -13,8 +13,8 @@ use Rattle.std.specs.Iters.{counting}
 use Rattle.bench.specs.declared.gates.Gate.{Gate}
 use Rattle.circuit.specs.Lanes.{Lane}
 
-unfoldable pub byteAt : Lane → ℕ → ℕ
-byteAt σ r = maskL (map (λ i. σ (r + i)) (counting 0 8))
+unfoldable pub shownByte : Lane → ℕ → ℕ
+shownByte σ r = maskL (map (λ i. σ (r + i)) (counting 0 8))
 
 abbrev pub place : List ℕ → ℕ → ℕ
 place P n = 8 * getD P (n / 8) 0 + n % 8

@@ -1,12 +1,14 @@
 // A play of a plan: its page, and its bases.
 ghost use mathlib.Core.Path.{_≡_};
 ghost use Prim.Native.Nat.{ℕ};
+ghost use Rattle.plans.specs.Pages.{ownInverter};
 ghost use Rattle.plans.specs.Plays.{pageOf, basesOf};
 use crate::pages::ADD;
 use crate::pages::AFFINE;
 use crate::pages::COPY;
 use crate::pages::ENTER;
 use crate::pages::FINISH;
+use crate::pages::INVERT;
 use crate::pages::LEAVE;
 use crate::pages::MIX;
 use crate::pages::RCON_1;
@@ -106,4 +108,11 @@ impl Play {
             Play::Rcon10(bases) => bases,
         }
     }
+}
+
+// The repository's own inverter.
+pub fn own_inverter() -> &'static [u8]
+    ensures { λ r. ⌜ now r ≡ ownInverter ⌝ }
+{
+    &INVERT
 }

@@ -9,28 +9,27 @@ use lib.ListN.{getD, length}
 use Rattle.std.specs.Iters.{counting}
 use Rattle.std.proofs.shelf.Tests.{lt-ltb, cond-true}
 use Rattle.std.proofs.shelf.Counted.{getD-map-counting}
-use Rattle.standard.specs.Kinds.{rounds, keyWords, roundKey, sixteen, byteAt as byteIn}
-use Rattle.standard.specs.KeyExpansion.{Word, KeyExpansion, wordAt, roundKeyByte, keyWord, xorWord, temp}
+use Rattle.standard.specs.Kinds.{rounds}
 use Rattle.bench.specs.Model.{Model}
 use Rattle.lane.specs.Spans.{byteOf, shownAt}
 use Rattle.lane.proofs.Shown.{map-below, byteOf-same}
 use Rattle.plans.specs.Layout.{at, key, free}
 use Rattle.circuit.specs.Lanes.{laneOf}
-use Rattle.circuit.specs.Places.{byteAt}
+use Rattle.circuit.specs.Places.{shownByte}
 use Rattle.circuit.specs.Claims.{keyValue, keyIn}
 use Rattle.unit.specs.Works.{kind}
 use Rattle.unit.specs.Lanes.{stateOf, keyOf, roundShown}
 
-pub byte-is : (σ : ℕ → Bool) (r : ℕ) → byteOf σ r ≡ byteAt σ r
-unfolding byteOf byteAt
+pub byte-is : (σ : ℕ → Bool) (r : ℕ) → byteOf σ r ≡ shownByte σ r
+unfolding byteOf shownByte
 byte-is σ r = refl
 
-byte-at : (σ : ℕ → Bool) (r r′ : ℕ) → r ≡ r′ → byteOf σ r ≡ byteAt σ r′
+byte-at : (σ : ℕ → Bool) (r r′ : ℕ) → r ≡ r′ → byteOf σ r ≡ shownByte σ r′
 byte-at σ r r′ e = ap (byteOf σ) e ∙ byte-is σ r′
 
 pub shown-state : (m : Model) (l : ℕ) → shownAt m 0 l 16 ≡ stateOf m l
 shown-state m l =
-    map-below (λ j. byteOf (laneOf m l) (0 + 8 * j)) (λ j. byteAt (laneOf m l) (8 * j)) 0 16 (λ j lo hi. byte-at (laneOf m l) (0 + 8 * j) (8 * j) (omega arith))
+    map-below (λ j. byteOf (laneOf m l) (0 + 8 * j)) (λ j. shownByte (laneOf m l) (8 * j)) 0 16 (λ j lo hi. byte-at (laneOf m l) (0 + 8 * j) (8 * j) (omega arith))
 
 key-place : (j : ℕ) → j < 16 → at (cond (ltb j 16) (16 + j) (16 * (rounds kind + 2) + (j - 16))) ≡ 128 + 8 * j
 key-place j h = ap (λ b. 8 * b) (cond-true (ltb j 16) (16 + j) (16 * (rounds kind + 2) + (j - 16)) (lt-ltb j 16 h)) ∙ omega arith
@@ -42,16 +41,16 @@ shown-key m l =
 
 -- ---- lanes that show the same bits
 
-byte-same : (σ τ : ℕ → Bool) (r : ℕ) → ((i : ℕ) → i < 8 → σ (r + i) ≡ τ (r + i)) → byteAt σ r ≡ byteAt τ r
+byte-same : (σ τ : ℕ → Bool) (r : ℕ) → ((i : ℕ) → i < 8 → σ (r + i) ≡ τ (r + i)) → shownByte σ r ≡ shownByte τ r
 byte-same σ τ r e = sym (byte-is σ r) ∙ byteOf-same σ τ r e ∙ byte-is τ r
 
 pub same-state : (m m′ : Model) (l : ℕ) → ((r : ℕ) → r < 128 → m .bit r l ≡ m′ .bit r l) → stateOf m l ≡ stateOf m′ l
 same-state m m′ l e =
-    map-below (λ j. byteAt (laneOf m l) (8 * j)) (λ j. byteAt (laneOf m′ l) (8 * j)) 0 16 (λ j lo hi. byte-same (laneOf m l) (laneOf m′ l) (8 * j) (λ i k. e (8 * j + i) (omega arith)))
+    map-below (λ j. shownByte (laneOf m l) (8 * j)) (λ j. shownByte (laneOf m′ l) (8 * j)) 0 16 (λ j lo hi. byte-same (laneOf m l) (laneOf m′ l) (8 * j) (λ i k. e (8 * j + i) (omega arith)))
 
 pub same-rounds : (m m′ : Model) (l : ℕ) → ((r : ℕ) → 128 ≤ r → r < 1536 → m .bit r l ≡ m′ .bit r l) → (n : ℕ) → n ≤ rounds kind → roundShown m l n ≡ roundShown m′ l n
 same-rounds m m′ l e n h =
-    map-below (λ j. keyValue kind n (byteAt (laneOf m l) (key n j))) (λ j. keyValue kind n (byteAt (laneOf m′ l) (key n j))) 0 16
+    map-below (λ j. keyValue kind n (shownByte (laneOf m l) (key n j))) (λ j. keyValue kind n (shownByte (laneOf m′ l) (key n j))) 0 16
     (λ j lo hi. ap (keyValue kind n) (byte-same (laneOf m l) (laneOf m′ l) (key n j) (λ i k. e (key n j + i) (omega arith) (omega arith))))
 
 pub same-key : (m m′ : Model) (l : ℕ) → ((r : ℕ) → 128 ≤ r → r < 256 → m .bit r l ≡ m′ .bit r l) → keyOf m l ≡ keyOf m′ l
@@ -59,22 +58,3 @@ same-key m m′ l e =
     map-below (keyIn kind (laneOf m l)) (keyIn kind (laneOf m′ l)) 0 16 (λ j lo hi.
     let p = key-place j hi in
     byte-same (laneOf m l) (laneOf m′ l) (at (cond (ltb j 16) (16 + j) (16 * (rounds kind + 2) + (j - 16)))) (λ i k. e (at (cond (ltb j 16) (16 + j) (16 * (rounds kind + 2) + (j - 16))) + i) (omega arith) (omega arith)))
-
--- ---- the round keys of a key hang on its sixteen bytes alone
-
-word-same : (k k′ : ℕ → ℕ) → ((j : ℕ) → j < 16 → k j ≡ k′ j) → (i : ℕ) → i < 4 → keyWord k i ≡ keyWord k′ i
-word-same k k′ e i h z = e (4 * i) (omega arith) z ∷ e (4 * i + 1) (omega arith) z ∷ e (4 * i + 2) (omega arith) z ∷ e (4 * i + 3) (omega arith) z ∷ []
-
-expansion-same : (k k′ : ℕ → ℕ) → ((j : ℕ) → j < 16 → k j ≡ k′ j) → (n : ℕ) → KeyExpansion 4 k n ≡ KeyExpansion 4 k′ n
-unfolding KeyExpansion
-expansion-same k k′ e zero = map-below (keyWord k) (keyWord k′) 0 4 (λ i lo hi. word-same k k′ e i hi)
-expansion-same k k′ e (suc n) = ap (λ (w : List Word). w ++ (xorWord (getD w n []) (temp 4 (n + 4) (getD w (n + 4 - 1) [])) ∷ [])) (expansion-same k k′ e n)
-
-round-byte-same : (k k′ : ℕ → ℕ) → ((j : ℕ) → j < 16 → k j ≡ k′ j) → (n j : ℕ) → roundKeyByte 4 k n j ≡ roundKeyByte 4 k′ n j
-unfolding wordAt
-round-byte-same k k′ e n j = ap (λ (w : List Word). getD (getD w (4 * n + j / 4) []) (j % 4) 0) (expansion-same k k′ e (4 * n + j / 4))
-
-pub round-key-of : (f : ℕ → ℕ) (n : ℕ) → sixteen (roundKeyByte (keyWords kind) f n) ≡ roundKey kind (sixteen f) n
-round-key-of f n =
-    map-below (roundKeyByte 4 f n) (roundKeyByte 4 (byteIn (sixteen f)) n) 0 16
-    (λ j lo hi. round-byte-same f (byteIn (sixteen f)) (λ i h. sym (getD-map-counting f 0 16 i i 0 h (omega arith))) n j)

@@ -30,9 +30,9 @@ use Rattle.plans.specs.Plans.{schedulePlan, sealPlan, openPlan}
 use Rattle.plans.proofs.Accepted.{registers-after, plan-falls}
 use Rattle.plans.proofs.Counts.{own-whole}
 use Rattle.circuit.specs.Lanes.{laneOf}
-use Rattle.circuit.specs.Places.{byteAt}
-use Rattle.circuit.specs.Claims.{keyValue, keyIn}
-use Rattle.circuit.proofs.ByteOf.{byteAt-small}
+use Rattle.circuit.specs.Places.{shownByte}
+use Rattle.circuit.specs.Claims.{keyValue}
+use Rattle.circuit.proofs.ByteOf.{shownByte-small}
 use Rattle.circuit.proofs.Inverter.{own-inverts}
 use Rattle.cipher.specs.Claims.{planAnswer}
 use Rattle.cipher.proofs.Stood.{schedules, seals, opens, stages-stand}
@@ -40,7 +40,7 @@ use Rattle.unit.specs.View.{Shape}
 use Rattle.unit.specs.Works.{kind, worked, gatesOfPlan}
 use Rattle.unit.specs.Lanes.{stateOf, keyOf, roundShown, KeysStay, Expanded, Enciphered, Deciphered, Staged, EveryLane}
 use Rattle.unit.specs.Answers.{fits}
-use Rattle.unit.proofs.Bytes.{same-state, same-rounds, same-key, round-key-of}
+use Rattle.unit.proofs.Bytes.{same-state, same-rounds, same-key}
 use Rattle.standard.proofs.Loops.{same-cipher, same-invCipher}
 
 -- ---- the size of a bench, and its gates, after a plan
@@ -70,13 +70,13 @@ worked-falls plan m h = plan-falls ownInverter own-whole plan m h
 -- ---- what a lane shows are bytes
 
 pub state-bytes : (m : Model) (l : ℕ) → State (stateOf m l)
-state-bytes m l = sixteen-state (λ j. byteAt (laneOf m l) (at j)) (λ j. byteAt-small (laneOf m l) (at j))
+state-bytes m l = sixteen-state (λ j. shownByte (laneOf m l) (at j)) (λ j. shownByte-small (laneOf m l) (at j))
 
 key-byte : (n v : ℕ) → v < 256 → keyValue kind n v < 256
 key-byte n v h = cond-both _ v (fromCoordinates v) (λ x. x < 256) (λ e. h) (λ e. from-byte v h)
 
 pub round-bytes : (m : Model) (l : ℕ) → RoundKeys (roundShown m l)
-round-bytes m l n = sixteen-state (λ j. keyValue kind n (byteAt (laneOf m l) (key n j))) (λ j. key-byte n (byteAt (laneOf m l) (key n j)) (byteAt-small (laneOf m l) (key n j)))
+round-bytes m l n = sixteen-state (λ j. keyValue kind n (shownByte (laneOf m l) (key n j))) (λ j. key-byte n (shownByte (laneOf m l) (key n j)) (shownByte-small (laneOf m l) (key n j)))
 
 -- ---- the plans
 
@@ -88,7 +88,7 @@ plan-expands m l h =
     let m′ : Model = worked (schedulePlan kind) m in
     let d = schedules ownInverter own-inverts kind m m′ refl l h in
     record {
-      all = λ n le. d .0 n le ∙ round-key-of (keyIn kind (laneOf m l)) n;
+      all = d .0;
       state = same-state m′ m l (λ r hi. d .1 r (omega arith));
       key = same-key m′ m l (λ r lo hi. d .1 r hi);
     }

@@ -13,20 +13,20 @@ use mathlib.Core.List.{List, map}
 use Rattle.std.specs.declared.option.Option.{Option}
 use Rattle.std.specs.declared.option.Option.the-variants.{Some, None}
 use Rattle.standard.specs.Cipher.{stateAfter, Cipher, InvCipher}
-use Rattle.standard.specs.Kinds.{rounds, roundKey, sixteen}
+use Rattle.standard.specs.Kinds.{rounds, roundKey}
 use Rattle.coordinates.specs.Coordinates.{toCoordinates}
 use Rattle.bench.specs.Model.{Model}
 use Rattle.bench.specs.declared.faults.Fault.{Fault}
 use Rattle.plans.specs.Plans.{stagesTo, sealPlan, openPlan}
 use Rattle.circuit.specs.Lanes.{laneOf}
-use Rattle.circuit.specs.Claims.{stateOf as stateIn, keysOf, keyIn}
+use Rattle.circuit.specs.Claims.{stateOf as stateIn, keysOf, keyOf as keyIn}
 use Rattle.unit.specs.Works.{kind, worked}
 
 abbrev pub stateOf : Model → ℕ → List ℕ
 stateOf m l = stateIn (laneOf m l)
 
 abbrev pub keyOf : Model → ℕ → List ℕ
-keyOf m l = sixteen (keyIn kind (laneOf m l))
+keyOf m l = keyIn kind (laneOf m l)
 
 abbrev pub roundShown : Model → ℕ → ℕ → List ℕ
 roundShown m l = keysOf kind (laneOf m l)
