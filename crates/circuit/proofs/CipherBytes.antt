@@ -9,7 +9,7 @@ use Rattle.std.specs.Iters.{counting}
 use Rattle.standard.specs.Cipher.{MixColumns, ShiftRows, AddRoundKey, Round, SubBytes, stateAfter}
 use Rattle.standard.specs.Kinds.{sixteen}
 use Rattle.standard.specs.Field.{mul, SBox}
-use Rattle.circuit.proofs.Tests256.{tests, small-below}
+use Rattle.standard.proofs.Tests.{tests, small-below}
 use Rattle.circuit.proofs.Linear.{BytesAll}
 
 pub sbox-byte : (v : ℕ) → v < 256 → SBox v < 256

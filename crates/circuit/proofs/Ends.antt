@@ -15,7 +15,7 @@ use Rattle.circuit.proofs.BitLaws.{table}
 use Rattle.circuit.proofs.Run.{run}
 use Rattle.circuit.specs.Places.{fitsAll}
 use Rattle.circuit.proofs.Files.{Effect}
-use Rattle.circuit.proofs.Tests256.{tests, small-below}
+use Rattle.standard.proofs.Tests.{tests, small-below}
 use Rattle.circuit.proofs.Unary.{wide, start, expected, same, Bytes, unary, unary-page}
 use Rattle.circuit.proofs.PlanLaws.{Proved}
 

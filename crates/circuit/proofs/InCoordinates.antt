@@ -15,7 +15,7 @@ use Rattle.coordinates.specs.Coordinates.{combine, toCoordinates, fromCoordinat
 use Rattle.standard.specs.Field.{inverse, affine, mul, SBox}
 use Rattle.standard.specs.Cipher.{MixColumns, ShiftRows, AddRoundKey, Round, SubBytes}
 use Rattle.circuit.proofs.BitLaws.{bit-xor}
-use Rattle.circuit.proofs.Tests256.{tests, equal-below, small-below}
+use Rattle.standard.proofs.Tests.{tests, equal-below, small-below}
 use Rattle.circuit.proofs.Unary.{same}
 use Rattle.circuit.proofs.Inverter.{coordinateInverse}
 use Rattle.circuit.proofs.Linear.{sumOf, BytesAll}

@@ -18,7 +18,7 @@ use Rattle.circuit.specs.Claims.{Inverts}
 use Rattle.circuit.proofs.BitLaws.{table}
 use Rattle.circuit.proofs.Run.{run}
 use Rattle.circuit.proofs.Files.{Shows, File, Effect}
-use Rattle.circuit.proofs.Tests256.{tests, small-below}
+use Rattle.standard.proofs.Tests.{tests, small-below}
 use Rattle.circuit.proofs.Unary.{wide, start, expected, same, Bytes, unary, unary-page}
 use Rattle.circuit.proofs.PlanLaws.{Proved}
 

@@ -19,13 +19,13 @@ use Rattle.plans.specs.declared.plays.Play.{Play}
 use Rattle.plans.specs.Layout.{free, key}
 use Rattle.plans.specs.Plans.{added, home, startPlan, wordPlan, leavePlan, wordsTo, schedulePlan}
 use Rattle.circuit.specs.Lanes.{Lane, runPlan}
-use Rattle.circuit.specs.Places.{shownByte}
+use Rattle.standard.specs.Bits.{byteOf}
 use Rattle.circuit.specs.Claims.{keyValue, keysOf, keyIn, ScheduleStands, Inverts}
 use Rattle.circuit.proofs.Files.{Shows}
 use Rattle.circuit.proofs.PlanLaws.{Step}
 use Rattle.circuit.proofs.FileViews.{Shown}
 use Rattle.circuit.proofs.InCoordinates.{from-to}
-use Rattle.circuit.proofs.ByteOf.{shownByte-small, shownByte-bit, map-below}
+use Rattle.standard.proofs.ByteLaws.{byteOf-small, byteOf-bit, map-below}
 use Rattle.circuit.proofs.Staged.{StageOk, stage, run-append, raw-shown, byte-read, bit-kept}
 use Rattle.circuit.proofs.Keys.{last-value, between-value}
 use Rattle.circuit.proofs.KeyMath.{add2}
@@ -117,13 +117,13 @@ key-byte k m (suc (suc (suc (suc x)))) h = absurd (omega arith)
 
 module _ (inv : List ℕ) (E : Inverts inv) (κ : KeyKind) (σ : Lane) where
   abbrev shows : ℕ → ℕ
-  shows j = shownByte σ (8 * j)
+  shows j = byteOf σ (8 * j)
 
   abbrev k : ℕ → ℕ
   k = keyIn κ σ
 
   hk : (j : ℕ) → k j < 256
-  hk j = shownByte-small σ _
+  hk j = byteOf-small σ _
 
   -- what the bytes show after so many words
   keys : ℕ → ℕ → ℕ
@@ -313,25 +313,25 @@ module _ (inv : List ℕ) (E : Inverts inv) (κ : KeyKind) (σ : Lane) where
       there : (j : ℕ) → 4 * (4 * 0 + j / 4) + j % 4 ≡ j
       there j = omega arith
 
-  read : (n j : ℕ) → n ≤ rounds κ → j < 16 → shownByte end (key n j) ≡ final (16 * (n + 1) + j)
+  read : (n j : ℕ) → n ≤ rounds κ → j < 16 → byteOf end (key n j) ≡ final (16 * (n + 1) + j)
   read n j hn hj = byte-read (free κ) end shows final shown-final (16 * (n + 1) + j) (omega arith) (omega (arith, L .room))
 
-  byte-of : (n j : ℕ) → n ≤ rounds κ → j < 16 → (n ≡ 0) ⊎ (n ≡ 0 → ⊥) → (n ≡ rounds κ) ⊎ (n ≡ rounds κ → ⊥) → keyValue κ n (shownByte end (key n j)) ≡ roundKeyByte (keyWords κ) k n j
+  byte-of : (n j : ℕ) → n ≤ rounds κ → j < 16 → (n ≡ 0) ⊎ (n ≡ 0 → ⊥) → (n ≡ rounds κ) ⊎ (n ≡ rounds κ → ⊥) → keyValue κ n (byteOf end (key n j)) ≡ roundKeyByte (keyWords κ) k n j
   byte-of n j hn hj (inl first) q =
-      subst (λ (x : ℕ). keyValue κ x (shownByte end (key x j)) ≡ roundKeyByte (keyWords κ) k x j) (sym first)
+      subst (λ (x : ℕ). keyValue κ x (byteOf end (key x j)) ≡ roundKeyByte (keyWords κ) k x j) (sym first)
       (read 0 j (omega arith) hj ∙ kept-byte (16 + j) (inl (omega arith)) (omega (arith, L .room)) ∙ raw-low j hj ∙ key-zero j hj)
   byte-of n j hn hj (inr p) (inl last) =
-      subst (λ (x : ℕ). keyValue κ x (shownByte end (key x j)) ≡ roundKeyByte (keyWords κ) k x j) (sym last)
-      (last-value κ (shownByte end (key (rounds κ) j))
+      subst (λ (x : ℕ). keyValue κ x (byteOf end (key x j)) ≡ roundKeyByte (keyWords κ) k x j) (sym last)
+      (last-value κ (byteOf end (key (rounds κ) j))
       ∙ read (rounds κ) j (omega arith) hj ∙ leave-on (16 * (rounds κ + 1) + j) (omega arith) (omega arith)
       ∙ ap fromCoordinates (key-there (rounds κ) j (omega (arith, L .many)) (omega arith) hj) ∙ from-to (roundKeyByte (keyWords κ) k (rounds κ) j) (key-small (rounds κ) j hj))
   byte-of n j hn hj (inr p) (inr q) =
-      between-value κ n (shownByte end (key n j)) (omega arith) (omega arith)
+      between-value κ n (byteOf end (key n j)) (omega arith) (omega arith)
       ∙ ap fromCoordinates (read n j hn hj ∙ leave-off (16 * (n + 1) + j) (inl (omega arith)) ∙ key-there n j (omega arith) hn hj)
       ∙ from-to (roundKeyByte (keyWords κ) k n j) (key-small n j hj)
 
   keys-are : (n : ℕ) → n ≤ rounds κ → keysOf κ end n ≡ sixteen (roundKeyByte (keyWords κ) k n)
-  keys-are n hn = map-below (λ j. keyValue κ n (shownByte end (key n j))) (roundKeyByte (keyWords κ) k n) 0 16 (λ j lo hi. byte-of n j hn (omega arith) (cases-eq n 0) (cases-eq n (rounds κ)))
+  keys-are n hn = map-below (λ j. keyValue κ n (byteOf end (key n j))) (roundKeyByte (keyWords κ) k n) 0 16 (λ j lo hi. byte-of n j hn (omega arith) (cases-eq n 0) (cases-eq n (rounds κ)))
 
   same-bit : (r : ℕ) → (r < 256) ⊎ (128 * (rounds κ + 2) ≤ r) → r < 8 * free κ → end r ≡ σ r
   same-bit r far low = bit-kept σ end r (go (cases-lt (r / 8) 16))

@@ -11,12 +11,12 @@ use Rattle.standard.specs.Kinds.{KeyKind, aes128, rounds, sixteen}
 use Rattle.coordinates.specs.Coordinates.{toCoordinates, fromCoordinates}
 use Rattle.plans.specs.Layout.{key}
 use Rattle.circuit.specs.Lanes.{Lane}
-use Rattle.circuit.specs.Places.{shownByte}
+use Rattle.standard.specs.Bits.{byteOf}
 use Rattle.circuit.specs.Claims.{keyValue, keysOf}
-use Rattle.circuit.proofs.Tests256.{tests, small-below}
+use Rattle.standard.proofs.Tests.{tests, small-below}
 use Rattle.circuit.proofs.Round.{keyBytesAt}
 use Rattle.circuit.proofs.InCoordinates.{to-from}
-use Rattle.circuit.proofs.ByteOf.{shownByte-small, map-below}
+use Rattle.standard.proofs.ByteLaws.{byteOf-small, map-below}
 use Rattle.circuit.proofs.Staged.{raw}
 
 from-byte : (v : ℕ) → v < 256 → fromCoordinates v < 256
@@ -36,10 +36,10 @@ between-value κ n v lo hi =
 
 module _ (κ : KeyKind) (σ : Lane) where
   abbrev pub keyByte : ℕ → ℕ → ℕ
-  keyByte n j = keyValue κ n (shownByte σ (key n j))
+  keyByte n j = keyValue κ n (byteOf σ (key n j))
 
   pub key-small : (n j : ℕ) → keyByte n j < 256
-  key-small n j = go (eqb n 0 || eqb n (rounds κ)) (shownByte σ (key n j)) (shownByte-small σ (key n j))
+  key-small n j = go (eqb n 0 || eqb n (rounds κ)) (byteOf σ (key n j)) (byteOf-small σ (key n j))
     where
       go : (q : Bool) (v : ℕ) → v < 256 → cond q v (fromCoordinates v) < 256
       go true v h = h
@@ -51,7 +51,7 @@ module _ (κ : KeyKind) (σ : Lane) where
   pub key-between : (n : ℕ) → 1 ≤ n → n < rounds κ → keyBytesAt (raw σ) n ≡ map toCoordinates (keysOf κ σ n)
   key-between n lo hi =
       map-below (λ j. raw σ (16 * (n + 1) + j)) (λ j. toCoordinates (keyByte n j)) 0 16
-      (λ j l h. sym (ap toCoordinates (between-value κ n (raw σ (16 * (n + 1) + j)) lo hi) ∙ to-from (raw σ (16 * (n + 1) + j)) (shownByte-small σ (8 * (16 * (n + 1) + j)))))
+      (λ j l h. sym (ap toCoordinates (between-value κ n (raw σ (16 * (n + 1) + j)) lo hi) ∙ to-from (raw σ (16 * (n + 1) + j)) (byteOf-small σ (8 * (16 * (n + 1) + j)))))
 
 pub some-rounds : (κ : KeyKind) → rounds κ ≡ suc (rounds κ - 1)
 some-rounds aes128 = refl

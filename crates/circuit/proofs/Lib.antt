@@ -1,7 +1,6 @@
 pub mod BitLaws
 pub mod Run
 pub mod Files
-pub mod Tests256
 pub mod Unary
 pub mod Linear
 pub mod LinearPage
@@ -13,7 +12,6 @@ pub mod Ends
 pub mod KeyPages
 pub mod Round
 pub mod InCoordinates
-pub mod ByteOf
 pub mod CipherBytes
 pub mod FileViews
 pub mod Staged

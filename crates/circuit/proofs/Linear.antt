@@ -26,7 +26,7 @@ use Rattle.circuit.specs.Places.{place, distinct, fitsAll, fitsGate}
 use Rattle.circuit.proofs.Files.{Shows, File, Effect, place-apart, place-at}
 use Rattle.circuit.proofs.BitLaws.{bit-xor, xorB-assoc, xorB-comm, xorB-left-comm, xorB-false}
 use Rattle.circuit.proofs.Run.{run, Tells, tells-after, Apart, and-l, and-r}
-use Rattle.circuit.proofs.Tests256.{tests, equal-below, small-below}
+use Rattle.standard.proofs.Tests.{tests, equal-below, small-below}
 
 -- ---- masks
 abbrev pub Mask : Type 0

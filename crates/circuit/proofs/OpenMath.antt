@@ -10,7 +10,7 @@ use Rattle.standard.specs.Cipher.{AddRoundKey, InvSubBytes, InvShiftRows, InvMi
 use Rattle.standard.specs.Kinds.{sixteen}
 use Rattle.coordinates.specs.Coordinates.{toCoordinates, fromCoordinates}
 use Rattle.standard.specs.Field.{inverse, invAffine, InvSBox, mul}
-use Rattle.circuit.proofs.Tests256.{tests, small-below}
+use Rattle.standard.proofs.Tests.{tests, small-below}
 use Rattle.circuit.proofs.Linear.{BytesAll}
 use Rattle.circuit.proofs.Inverter.{coordinateInverse}
 use Rattle.circuit.proofs.Round.{coordinateAdd}

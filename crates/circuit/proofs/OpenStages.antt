@@ -22,7 +22,7 @@ use Rattle.circuit.proofs.BitLaws.{table}
 use Rattle.circuit.proofs.Run.{run}
 use Rattle.circuit.specs.Places.{fitsAll}
 use Rattle.circuit.proofs.Files.{Effect, File}
-use Rattle.circuit.proofs.Tests256.{tests, small-below}
+use Rattle.standard.proofs.Tests.{tests, small-below}
 use Rattle.circuit.proofs.Unary.{wide, start, expected, unary}
 use Rattle.circuit.proofs.Linear.{sumOf}
 use Rattle.circuit.proofs.LinearPage.{linear}

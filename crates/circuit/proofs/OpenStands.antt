@@ -18,7 +18,7 @@ use Rattle.circuit.specs.Claims.{stateOf, keysOf, OpenStands, Inverts}
 use Rattle.circuit.proofs.Linear.{BytesAll}
 use Rattle.circuit.proofs.Round.{coordinateAdd, keyBytesAt}
 use Rattle.circuit.proofs.InCoordinates.{from-to, coordinate-add}
-use Rattle.circuit.proofs.ByteOf.{shownByte-small}
+use Rattle.standard.proofs.ByteLaws.{byteOf-small}
 use Rattle.circuit.proofs.CipherBytes.{bytes-at}
 use Rattle.circuit.proofs.Staged.{raw, states, state-after, kept-after}
 use Rattle.circuit.proofs.Keys.{keyByte, key-small, key-last, key-between, some-rounds}
@@ -75,7 +75,7 @@ module _ (inv : List ℕ) (E : Inverts inv) (κ : KeyKind) (σ : Lane) where
   reached = state-after inv (free κ - 16) (rounds κ) (openStage κ) (openTo κ) (to-first κ) (to-more κ) (openSteps E κ) (out κ) (open-ok E κ) σ
 
   bytes : (n : ℕ) → BytesAll (after n)
-  bytes n = inv-bytes (rounds κ) (raw σ) (keyByte κ σ) (λ j. shownByte-small σ (8 * j)) (key-small κ σ) n
+  bytes n = inv-bytes (rounds κ) (raw σ) (keyByte κ σ) (λ j. byteOf-small σ (8 * j)) (key-small κ σ) n
 
   all-left : rounds κ - 0 ≡ rounds κ
   all-left = omega arith

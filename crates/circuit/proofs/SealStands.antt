@@ -22,7 +22,7 @@ use Rattle.circuit.proofs.Inverter.{coordinateInverse}
 use Rattle.circuit.proofs.Ends.{finish}
 use Rattle.circuit.proofs.Round.{coordinateRound, coordinateAdd, keyBytesAt}
 use Rattle.circuit.proofs.InCoordinates.{coordinate-round, from-to, inverse-byte, inv-to}
-use Rattle.circuit.proofs.ByteOf.{shownByte-small}
+use Rattle.standard.proofs.ByteLaws.{byteOf-small}
 use Rattle.circuit.proofs.CipherBytes.{bytes-at, cipher-bytes}
 use Rattle.circuit.proofs.Staged.{raw, states, state-after, kept-after}
 use Rattle.circuit.proofs.Keys.{keyByte, key-small, key-last, key-between, some-rounds}
@@ -83,7 +83,7 @@ module _ (inv : List ℕ) (E : Inverts inv) (κ : KeyKind) (σ : Lane) where
   shown n = states inv (free κ - 16) (rounds κ) (stagePlan κ) (stagesTo κ) (to-first κ) (to-more κ) (stageSteps E κ) (out κ) (stage-ok E κ) σ n
 
   small : (n j : ℕ) → getD (after n) j 0 < 256
-  small n = bytes-at (after n) (cipher-bytes (raw σ) (keyByte κ σ) (λ j. shownByte-small σ (8 * j)) (key-small κ σ) n)
+  small n = bytes-at (after n) (cipher-bytes (raw σ) (keyByte κ σ) (λ j. byteOf-small σ (8 * j)) (key-small κ σ) n)
 
   reached : (n : ℕ) → n ≤ rounds κ → stateOf (runPlan inv (stagesTo κ n) σ) ≡ sixteen (λ j. getD (shown n) j 0)
   reached = state-after inv (free κ - 16) (rounds κ) (stagePlan κ) (stagesTo κ) (to-first κ) (to-more κ) (stageSteps E κ) (out κ) (stage-ok E κ) σ

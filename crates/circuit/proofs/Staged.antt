@@ -12,12 +12,12 @@ use Rattle.standard.specs.Kinds.{sixteen}
 use Rattle.plans.specs.declared.plays.Play.{Play}
 use Rattle.plans.specs.Layout.{at}
 use Rattle.circuit.specs.Lanes.{Lane, playLane, runPlan}
-use Rattle.circuit.specs.Places.{shownByte}
+use Rattle.standard.specs.Bits.{byteOf}
 use Rattle.circuit.specs.Claims.{stateOf}
 use Rattle.circuit.proofs.Files.{Shows, ShowsAll}
 use Rattle.circuit.proofs.PlanLaws.{Step, playOf, lawfulAll, fileAfter, plan-shows}
 use Rattle.circuit.proofs.FileViews.{fileOf, Shown, state-at, file-shows}
-use Rattle.circuit.proofs.ByteOf.{shownByte-small, shownByte-bit, shownByte-is, map-below}
+use Rattle.standard.proofs.ByteLaws.{byteOf-small, byteOf-bit, byteOf-is, map-below}
 
 pub run-append : (inv : List ℕ) (xs ys : List Play) (σ : Lane) → runPlan inv (xs ++ ys) σ ≡ runPlan inv ys (runPlan inv xs σ)
 unfolding runPlan
@@ -45,24 +45,24 @@ stage inv w plan steps out upd ok σ s k shown =
 
 -- byte j of a lane
 abbrev pub raw : Lane → ℕ → ℕ
-raw σ j = shownByte σ (8 * j)
+raw σ j = byteOf σ (8 * j)
 
 pub raw-shown : (w : ℕ) (σ : Lane) → Shown w σ (raw σ) (raw σ)
 raw-shown w σ = (
-  (λ j hj. (shownByte-small σ (8 * j), λ i hi. sym (shownByte-bit σ (8 * j) i hi))),
-  (λ j l hj. (shownByte-small σ (8 * j), λ i hi. sym (shownByte-bit σ (8 * j) i hi))),
+  (λ j hj. (byteOf-small σ (8 * j), λ i hi. sym (byteOf-bit σ (8 * j) i hi))),
+  (λ j l hj. (byteOf-small σ (8 * j), λ i hi. sym (byteOf-bit σ (8 * j) i hi))),
 )
 
 pub state-read : (w : ℕ) (σ : Lane) (s k : ℕ → ℕ) → Shown w σ s k → stateOf σ ≡ sixteen s
-state-read w σ s k shown = map-below (λ j. shownByte σ (at j)) s 0 16 (λ j l h. shownByte-is σ (8 * j) (s j) (shown .0 j h .0) (shown .0 j h .1))
+state-read w σ s k shown = map-below (λ j. byteOf σ (at j)) s 0 16 (λ j l h. byteOf-is σ (8 * j) (s j) (shown .0 j h .0) (shown .0 j h .1))
 
-pub byte-read : (w : ℕ) (σ : Lane) (s k : ℕ → ℕ) → Shown w σ s k → (j : ℕ) → 16 ≤ j → j < 16 + w → shownByte σ (at j) ≡ k j
-byte-read w σ s k shown j lo hi = shownByte-is σ (8 * j) (k j) (shown .1 j lo hi .0) (shown .1 j lo hi .1)
+pub byte-read : (w : ℕ) (σ : Lane) (s k : ℕ → ℕ) → Shown w σ s k → (j : ℕ) → 16 ≤ j → j < 16 + w → byteOf σ (at j) ≡ k j
+byte-read w σ s k shown j lo hi = byteOf-is σ (8 * j) (k j) (shown .1 j lo hi .0) (shown .1 j lo hi .1)
 
 -- a register of a byte that shows what another lane does
 pub bit-kept : (σ τ : Lane) (r : ℕ) → Shows τ (r / 8) (some (raw σ (r / 8))) → τ r ≡ σ r
 bit-kept σ τ r h =
-    ap τ (split r) ∙ h .1 (r % 8) (omega arith) ∙ shownByte-bit σ (8 * (r / 8)) (r % 8) (omega arith) ∙ ap σ (sym (split r))
+    ap τ (split r) ∙ h .1 (r % 8) (omega arith) ∙ byteOf-bit σ (8 * (r / 8)) (r % 8) (omega arith) ∙ ap σ (sym (split r))
   where
     split : (r : ℕ) → r ≡ 8 * (r / 8) + r % 8
     split r = omega arith

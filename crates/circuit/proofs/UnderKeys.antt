@@ -11,7 +11,7 @@ use Rattle.standard.specs.KeyExpansion.{Word, keyWord, xorWord, temp, KeyExpans
 use Rattle.standard.specs.Kinds.{KeyKind, rounds, keyWords, keyBytes, sixteen, byteAt as byteIn, roundKey, encrypted, decrypted}
 use Rattle.circuit.specs.Lanes.{Lane}
 use Rattle.circuit.specs.Claims.{keysOf, keyIn, keyOf}
-use Rattle.circuit.proofs.ByteOf.{map-below}
+use Rattle.standard.proofs.ByteLaws.{map-below}
 
 -- ---- round keys
 

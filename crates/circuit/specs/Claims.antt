@@ -11,7 +11,7 @@ use mathlib.Core.List.{List, map}
 use lib.Dec.{T, eqb, ltb}
 use lib.ListN.{getD, length}
 use Rattle.std.specs.Iters.{counting}
-use Rattle.standard.specs.Bits.{bit}
+use Rattle.standard.specs.Bits.{bit, byteOf}
 use Rattle.standard.specs.Field.{inverse}
 use Rattle.standard.specs.Cipher.{stateAfter, Cipher, InvCipher}
 use Rattle.standard.specs.Kinds.{KeyKind, rounds, keyBytes, sixteen, roundKey}
@@ -20,21 +20,21 @@ use Rattle.player.specs.Pages.{gatesOf, socketsIn}
 use Rattle.plans.specs.Layout.{at, key, free}
 use Rattle.plans.specs.Plans.{stagesTo, sealPlan, schedulePlan, openPlan}
 use Rattle.circuit.specs.Lanes.{Lane, playOn, runPlan}
-use Rattle.circuit.specs.Places.{place, distinct, fitsAll, shownByte}
+use Rattle.circuit.specs.Places.{place, distinct, fitsAll}
 
 abbrev pub stateOf : Lane → List ℕ
-stateOf σ = sixteen (λ j. shownByte σ (at j))
+stateOf σ = sixteen (λ j. byteOf σ (at j))
 
 -- byte v of round key n
 abbrev pub keyValue : KeyKind → ℕ → ℕ → ℕ
 keyValue κ n v = cond (eqb n 0 || eqb n (rounds κ)) v (fromCoordinates v)
 
 abbrev pub keysOf : KeyKind → Lane → ℕ → List ℕ
-keysOf κ σ n = sixteen (λ j. keyValue κ n (shownByte σ (key n j)))
+keysOf κ σ n = sixteen (λ j. keyValue κ n (byteOf σ (key n j)))
 
 -- byte j of the key
 abbrev pub keyIn : KeyKind → Lane → ℕ → ℕ
-keyIn κ σ j = shownByte σ (at (cond (ltb j 16) (16 + j) (16 * (rounds κ + 2) + (j - 16))))
+keyIn κ σ j = byteOf σ (at (cond (ltb j 16) (16 + j) (16 * (rounds κ + 2) + (j - 16))))
 
 abbrev pub keyOf : KeyKind → Lane → List ℕ
 keyOf κ σ = map (keyIn κ σ) (counting 0 (keyBytes κ))

@@ -1,20 +1,13 @@
 -- Whole bytes of registers: byte b is registers 8·b to 8·b + 7, bit 0 first. Assumes nothing.
 --
---   shownByte σ r   the byte that the eight registers from r on show in a lane
 --   place P n    number n of a page whose byte l stands at byte P(l)
 --   fitsAll n    each number of each gate is below n
 use Prim.Native.Nat.{ℕ, _+_, _*_, _/_, _%_}
 use mathlib.Core.Bool.{Bool, true, false, not, _&&_, _||_}
-use mathlib.Core.List.{List, [], _∷_, map}
+use mathlib.Core.List.{List, [], _∷_}
 use lib.Dec.{eqb, ltb}
-use lib.Lanes.{maskL}
 use lib.ListN.{getD}
-use Rattle.std.specs.Iters.{counting}
 use Rattle.bench.specs.declared.gates.Gate.{Gate}
-use Rattle.circuit.specs.Lanes.{Lane}
-
-unfoldable pub shownByte : Lane → ℕ → ℕ
-shownByte σ r = maskL (map (λ i. σ (r + i)) (counting 0 8))
 
 abbrev pub place : List ℕ → ℕ → ℕ
 place P n = 8 * getD P (n / 8) 0 + n % 8

@@ -6,41 +6,15 @@ use mathlib.Core.List.{List, [], _∷_, map}
 use Prim.Native.Nat.{ℕ, zero, suc, _+_, _-_, _*_, _/_, _%_, _<_, _≤_}
 use native.Mathlib.Omega.{arith}
 use lib.Dec.{T, eqb, ltb, leb}
-use lib.Lanes.{maskL}
 use lib.ListN.{getD, length}
 use Rattle.std.specs.Iters.{counting}
-use Rattle.std.proofs.shelf.Lanes.{maskL-lt}
 use Rattle.std.proofs.shelf.Lists.{getD-past}
 use Rattle.std.proofs.shelf.Counted.{length-counting, length-map-counting, getD-map-counting, fill-by-all}
 use Rattle.std.proofs.shelf.Tests.{cases-bool, ltb-true, ltb-false, lt-ltb, le-ltb, leb-true, leb-false, le-leb, lt-leb, eqb-true, eqb-false, eq-eqb, ne-eqb}
-use Rattle.standard.specs.Bits.{bit}
-use Rattle.standard.proofs.Tests.{tests, equal-below}
+use Rattle.standard.specs.Bits.{bit, byteOf}
+use Rattle.standard.proofs.ByteLaws.{map-below, byteOf-same, byteOf-is}
 use Rattle.bench.specs.Model.{Model}
-use Rattle.lane.specs.Spans.{span, laid, bitsOf, byteOf, shownAt}
-
--- ---- lists made from a number below n
-
-pub map-below : {A : Type 0} (f g : ℕ → A) (a n : ℕ) → ((j : ℕ) → a ≤ j → j < a + n → f j ≡ g j) → map f (counting a n) ≡ map g (counting a n)
-map-below f g a zero e = refl
-map-below {A} f g a (suc n) e = ap₂ {C = List A} (λ x xs. x ∷ xs) (e a (omega arith) (omega arith)) (map-below f g (a + 1) n (λ j lo hi. e j (omega arith) (omega arith)))
-
--- ---- a byte by its bits
-
-pub byteOf-same : (σ τ : ℕ → Bool) (base : ℕ) → ((i : ℕ) → i < 8 → σ (base + i) ≡ τ (base + i)) → byteOf σ base ≡ byteOf τ base
-unfolding byteOf
-byteOf-same σ τ base e = ap maskL (map-below (λ i. σ (base + i)) (λ i. τ (base + i)) 0 8 (λ i lo hi. e i hi))
-
-pub byteOf-small : (σ : ℕ → Bool) (base : ℕ) → byteOf σ base < 256
-unfolding byteOf
-byteOf-small σ base = maskL-lt (map (λ i. σ (base + i)) (counting 0 8))
-
-rebuilt : (v : ℕ) → v < 256 → maskL (map (bit v) (counting 0 8)) ≡ v
-unfolding tests bit
-rebuilt = equal-below (λ v. maskL (map (bit v) (counting 0 8))) (λ v. v) 256 tt
-
-pub byteOf-is : (σ : ℕ → Bool) (base v : ℕ) → v < 256 → ((i : ℕ) → i < 8 → σ (base + i) ≡ bit v i) → byteOf σ base ≡ v
-unfolding byteOf
-byteOf-is σ base v h e = ap maskL (map-below (λ i. σ (base + i)) (bit v) 0 8 (λ i lo hi. e i hi)) ∙ rebuilt v h
+use Rattle.lane.specs.Spans.{span, laid, bitsOf, shownAt}
 
 -- ---- the bytes of a span
 

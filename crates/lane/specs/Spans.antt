@@ -9,12 +9,11 @@ use Prim.Native.Nat.{ℕ, zero, suc, _+_, _-_, _*_, _/_, _%_, max}
 use mathlib.Core.Bool.{Bool, false, cond, _&&_}
 use mathlib.Core.List.{List, map}
 use lib.Dec.{eqb, ltb, leb}
-use lib.Lanes.{maskL}
 use lib.ListN.{getD, length}
 use Rattle.std.specs.Iters.{counting}
 use Rattle.std.specs.declared.result.Result.{Result}
 use Rattle.std.specs.declared.result.Result.the-variants.{Ok, Err}
-use Rattle.standard.specs.Bits.{bit}
+use Rattle.standard.specs.Bits.{bit, byteOf}
 use Rattle.bench.specs.declared.faults.Question.the-variants.{Register}
 use Rattle.bench.specs.declared.faults.Part.the-variants.{Bench}
 use Rattle.bench.specs.declared.faults.Fault.{Fault}
@@ -38,10 +37,6 @@ laid base n lane f m = record {
 abbrev pub laidIn : ℕ → ℕ → ℕ → (ℕ → Bool) → Memory → Memory
 laidIn base zero lane f x = x
 laidIn base (suc n) lane f x = writtenIn (base + n) lane (f n) (laidIn base n lane f x)
-
--- the byte that eight registers show
-unfoldable pub byteOf : (ℕ → Bool) → ℕ → ℕ
-byteOf σ base = maskL (map (λ i. σ (base + i)) (counting 0 8))
 
 abbrev pub shownAt : Model → ℕ → ℕ → ℕ → List ℕ
 shownAt m base lane n = map (λ j. byteOf (λ r. m .bit r lane) (base + 8 * j)) (counting 0 n)

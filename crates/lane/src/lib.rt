@@ -4,9 +4,9 @@
 ghost use mathlib.Core.Path.{_≡_};
 ghost use Prim.Native.Nat.{ℕ, _+_, _*_, _<_, _^_, _≤_};
 ghost use lib.ListN.{length};
-ghost use Rattle.standard.specs.Bits.{bit};
+ghost use Rattle.standard.specs.Bits.{bit, byteOf};
 ghost use Rattle.bench.specs.Model.{told, after};
-ghost use Rattle.lane.specs.Spans.{bitsOf, laid, laidIn, shownAt, spanAnswer, zeroed, zeroedIn, byteOf};
+ghost use Rattle.lane.specs.Spans.{bitsOf, laid, laidIn, shownAt, spanAnswer, zeroed, zeroedIn};
 use bench::benches::Bench;
 use bench::faults::Fault;
 

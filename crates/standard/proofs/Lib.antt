@@ -1,5 +1,6 @@
 pub mod BitLaws
 pub mod Tests
+pub mod ByteLaws
 pub mod FieldLaws
 pub mod ProductLaws
 pub mod StateLaws

@@ -4,6 +4,7 @@ use mathlib.Core.Bool.{Bool, true, cond}
 use mathlib.Core.List.{List, [], _∷_, _++_, map}
 use Prim.Native.Nat.{ℕ, zero, suc, _+_, _-_, _*_, _/_, _%_, _<_, _≤_}
 use native.Mathlib.Omega.{arith}
+use native.Mathlib.Nat.{zero-add}
 use lib.Dec.{ltb}
 use lib.ListN.{getD, length}
 use Rattle.std.specs.Iters.{counting}
@@ -11,25 +12,18 @@ use Rattle.std.proofs.shelf.Tests.{lt-ltb, cond-true}
 use Rattle.std.proofs.shelf.Counted.{getD-map-counting}
 use Rattle.standard.specs.Kinds.{rounds}
 use Rattle.bench.specs.Model.{Model}
-use Rattle.lane.specs.Spans.{byteOf, shownAt}
-use Rattle.lane.proofs.Shown.{map-below, byteOf-same}
+use Rattle.lane.specs.Spans.{shownAt}
+use Rattle.standard.specs.Bits.{byteOf}
+use Rattle.standard.proofs.ByteLaws.{map-below, byteOf-same}
 use Rattle.plans.specs.Layout.{at, key, free}
 use Rattle.circuit.specs.Lanes.{laneOf}
-use Rattle.circuit.specs.Places.{shownByte}
 use Rattle.circuit.specs.Claims.{keyValue, keyIn}
 use Rattle.unit.specs.Works.{kind}
 use Rattle.unit.specs.Lanes.{stateOf, keyOf, roundShown}
 
-pub byte-is : (σ : ℕ → Bool) (r : ℕ) → byteOf σ r ≡ shownByte σ r
-unfolding byteOf shownByte
-byte-is σ r = refl
-
-byte-at : (σ : ℕ → Bool) (r r′ : ℕ) → r ≡ r′ → byteOf σ r ≡ shownByte σ r′
-byte-at σ r r′ e = ap (byteOf σ) e ∙ byte-is σ r′
-
 pub shown-state : (m : Model) (l : ℕ) → shownAt m 0 l 16 ≡ stateOf m l
 shown-state m l =
-    map-below (λ j. byteOf (laneOf m l) (0 + 8 * j)) (λ j. shownByte (laneOf m l) (8 * j)) 0 16 (λ j lo hi. byte-at (laneOf m l) (0 + 8 * j) (8 * j) (omega arith))
+    map-below (λ j. byteOf (laneOf m l) (0 + 8 * j)) (λ j. byteOf (laneOf m l) (8 * j)) 0 16 (λ j lo hi. ap (byteOf (laneOf m l)) (zero-add (8 * j)))
 
 key-place : (j : ℕ) → j < 16 → at (cond (ltb j 16) (16 + j) (16 * (rounds kind + 2) + (j - 16))) ≡ 128 + 8 * j
 key-place j h = ap (λ b. 8 * b) (cond-true (ltb j 16) (16 + j) (16 * (rounds kind + 2) + (j - 16)) (lt-ltb j 16 h)) ∙ omega arith
@@ -37,24 +31,21 @@ key-place j h = ap (λ b. 8 * b) (cond-true (ltb j 16) (16 + j) (16 * (rounds ki
 pub shown-key : (m : Model) (l : ℕ) → shownAt m 128 l 16 ≡ keyOf m l
 shown-key m l =
     map-below (λ j. byteOf (laneOf m l) (128 + 8 * j)) (keyIn kind (laneOf m l)) 0 16
-    (λ j lo hi. byte-at (laneOf m l) (128 + 8 * j) (at (cond (ltb j 16) (16 + j) (16 * (rounds kind + 2) + (j - 16)))) (sym (key-place j hi)))
+    (λ j lo hi. ap (byteOf (laneOf m l)) (sym (key-place j hi)))
 
 -- ---- lanes that show the same bits
 
-byte-same : (σ τ : ℕ → Bool) (r : ℕ) → ((i : ℕ) → i < 8 → σ (r + i) ≡ τ (r + i)) → shownByte σ r ≡ shownByte τ r
-byte-same σ τ r e = sym (byte-is σ r) ∙ byteOf-same σ τ r e ∙ byte-is τ r
-
 pub same-state : (m m′ : Model) (l : ℕ) → ((r : ℕ) → r < 128 → m .bit r l ≡ m′ .bit r l) → stateOf m l ≡ stateOf m′ l
 same-state m m′ l e =
-    map-below (λ j. shownByte (laneOf m l) (8 * j)) (λ j. shownByte (laneOf m′ l) (8 * j)) 0 16 (λ j lo hi. byte-same (laneOf m l) (laneOf m′ l) (8 * j) (λ i k. e (8 * j + i) (omega arith)))
+    map-below (λ j. byteOf (laneOf m l) (8 * j)) (λ j. byteOf (laneOf m′ l) (8 * j)) 0 16 (λ j lo hi. byteOf-same (laneOf m l) (laneOf m′ l) (8 * j) (λ i k. e (8 * j + i) (omega arith)))
 
 pub same-rounds : (m m′ : Model) (l : ℕ) → ((r : ℕ) → 128 ≤ r → r < 1536 → m .bit r l ≡ m′ .bit r l) → (n : ℕ) → n ≤ rounds kind → roundShown m l n ≡ roundShown m′ l n
 same-rounds m m′ l e n h =
-    map-below (λ j. keyValue kind n (shownByte (laneOf m l) (key n j))) (λ j. keyValue kind n (shownByte (laneOf m′ l) (key n j))) 0 16
-    (λ j lo hi. ap (keyValue kind n) (byte-same (laneOf m l) (laneOf m′ l) (key n j) (λ i k. e (key n j + i) (omega arith) (omega arith))))
+    map-below (λ j. keyValue kind n (byteOf (laneOf m l) (key n j))) (λ j. keyValue kind n (byteOf (laneOf m′ l) (key n j))) 0 16
+    (λ j lo hi. ap (keyValue kind n) (byteOf-same (laneOf m l) (laneOf m′ l) (key n j) (λ i k. e (key n j + i) (omega arith) (omega arith))))
 
 pub same-key : (m m′ : Model) (l : ℕ) → ((r : ℕ) → 128 ≤ r → r < 256 → m .bit r l ≡ m′ .bit r l) → keyOf m l ≡ keyOf m′ l
 same-key m m′ l e =
     map-below (keyIn kind (laneOf m l)) (keyIn kind (laneOf m′ l)) 0 16 (λ j lo hi.
     let p = key-place j hi in
-    byte-same (laneOf m l) (laneOf m′ l) (at (cond (ltb j 16) (16 + j) (16 * (rounds kind + 2) + (j - 16)))) (λ i k. e (at (cond (ltb j 16) (16 + j) (16 * (rounds kind + 2) + (j - 16))) + i) (omega arith) (omega arith)))
+    byteOf-same (laneOf m l) (laneOf m′ l) (at (cond (ltb j 16) (16 + j) (16 * (rounds kind + 2) + (j - 16)))) (λ i k. e (at (cond (ltb j 16) (16 + j) (16 * (rounds kind + 2) + (j - 16))) + i) (omega arith) (omega arith)))

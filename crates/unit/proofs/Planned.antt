@@ -30,9 +30,9 @@ use Rattle.plans.specs.Plans.{schedulePlan, sealPlan, openPlan}
 use Rattle.plans.proofs.Accepted.{registers-after, plan-falls}
 use Rattle.plans.proofs.Counts.{own-whole}
 use Rattle.circuit.specs.Lanes.{laneOf}
-use Rattle.circuit.specs.Places.{shownByte}
+use Rattle.standard.specs.Bits.{byteOf}
 use Rattle.circuit.specs.Claims.{keyValue}
-use Rattle.circuit.proofs.ByteOf.{shownByte-small}
+use Rattle.standard.proofs.ByteLaws.{byteOf-small}
 use Rattle.circuit.proofs.Inverter.{own-inverts}
 use Rattle.cipher.specs.Claims.{planAnswer}
 use Rattle.cipher.proofs.Stood.{schedules, seals, opens, stages-stand}
@@ -70,13 +70,13 @@ worked-falls plan m h = plan-falls ownInverter own-whole plan m h
 -- ---- what a lane shows are bytes
 
 pub state-bytes : (m : Model) (l : ℕ) → State (stateOf m l)
-state-bytes m l = sixteen-state (λ j. shownByte (laneOf m l) (at j)) (λ j. shownByte-small (laneOf m l) (at j))
+state-bytes m l = sixteen-state (λ j. byteOf (laneOf m l) (at j)) (λ j. byteOf-small (laneOf m l) (at j))
 
 key-byte : (n v : ℕ) → v < 256 → keyValue kind n v < 256
 key-byte n v h = cond-both _ v (fromCoordinates v) (λ x. x < 256) (λ e. h) (λ e. from-byte v h)
 
 pub round-bytes : (m : Model) (l : ℕ) → RoundKeys (roundShown m l)
-round-bytes m l n = sixteen-state (λ j. keyValue kind n (shownByte (laneOf m l) (key n j))) (λ j. key-byte n (shownByte (laneOf m l) (key n j)) (shownByte-small (laneOf m l) (key n j)))
+round-bytes m l n = sixteen-state (λ j. keyValue kind n (byteOf (laneOf m l) (key n j))) (λ j. key-byte n (byteOf (laneOf m l) (key n j)) (byteOf-small (laneOf m l) (key n j)))
 
 -- ---- the plans
 

@@ -75,8 +75,8 @@ fn enough_gates(cost: u32, left: u32) -> Result<(), Fault>
 impl<B: Bench> CipherUnit<B> {
     // A unit with all records empty, whatever the bench's registers show.
     pub fn new(bench: B) -> CipherUnit<B>
-        ensures { λ r. ⌜ view B·Bench r ≡ made (meaning B·Bench bench) (B·Bench .beneath bench) ⌝ }
-        ensures { λ r. ⌜ r .bench ≡ bench ⌝ }
+        ensures empty { λ r. ⌜ view B·Bench r ≡ made (meaning B·Bench bench) (B·Bench .beneath bench) ⌝ }
+        ensures same { λ r. ⌜ r .bench ≡ bench ⌝ }
     {
         CipherUnit {
             bench,

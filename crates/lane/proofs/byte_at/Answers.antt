@@ -4,7 +4,7 @@ use mathlib.Core.Path.{_≡_, ap, ap₂, _∙_}
 use mathlib.Core.Bool.{Bool}
 use Prim.Native.Nat.{ℕ, _+_, _*_, _-_, _≤_, _<_}
 use mir.Val.{boolByte}
-use Rattle.lane.specs.Spans.{byteOf}
+use Rattle.standard.specs.Bits.{byteOf}
 use Rattle.lane.proofs.Bytes.{upper, upper-lt, byte-small, upper-more}
 use Rattle.lane.proofs.byte_at.Needs as need
 

@@ -7,7 +7,7 @@ use mathlib.Core.Bool.{Bool}
 use Prim.Native.Nat.{ℕ, _+_, _*_, _<_, _≤_}
 use Rattle.std.proofs.shelf.Counted.{fill-by-all}
 use Rattle.std.proofs.shelf.Tests.{lt-ltb, le-leb}
-use Rattle.lane.specs.Spans.{byteOf}
+use Rattle.standard.specs.Bits.{byteOf}
 use lib.ListN.{length}
 use lib.Seq.{getD-set-same, getD-set-other}
 use Rattle.lane.proofs.read_bytes.Needs as need

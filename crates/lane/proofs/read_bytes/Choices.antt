@@ -1,7 +1,7 @@
 use Prim.Native.Nat.{ℕ, _+_, _*_, _<_}
 use mathlib.Core.Path.{_≡_}
 use lib.ListN.{getD}
-use Rattle.lane.specs.Spans.{byteOf}
+use Rattle.standard.specs.Bits.{byteOf}
 use Rattle.lane.proofs.read_bytes.Given as given
 
 abbrev pub Inv-loop-j : given.InvT-loop-j

@@ -17,6 +17,6 @@ returns g c =
     let u = view (g .B·Bench) (c .loop-entry .unit) in
     let calls = asks (c .args .log .now) in
     let end = finished _ u _ _ _ (c .loop-entry-test .left) (c .loop-entry .kept .log) (c .loop-entry .inv) in
-    let told : lines (c .loop-entry .log) ≡ log (made m x) calls = end .0 ∙ ap (λ v. log v calls) (c .new-unit .ensures .0) in
-    let same : u ≡ ran (made m x) calls = end .1 ∙ ap (λ v. ran v calls) (c .new-unit .ensures .0) in
+    let told : lines (c .loop-entry .log) ≡ log (made m x) calls = end .0 ∙ ap (λ v. log v calls) (c .new-unit .ensures .empty) in
+    let same : u ≡ ran (made m x) calls = end .1 ∙ ap (λ v. ran v calls) (c .new-unit .ensures .empty) in
     record { log = told; unit = same; law = lawful-of m x u calls _ (end .2) told same; sound = end .2 }

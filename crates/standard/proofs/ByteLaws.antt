@@ -1,4 +1,4 @@
--- The byte that eight registers show. Assumes nothing.
+-- The byte that eight bits make. Assumes nothing.
 use mathlib.Core.Path.{_≡_, refl, sym, ap, ap₂, _∙_, subst}
 use mathlib.Core.Bool.{Bool, true, false, cond}
 use mathlib.Core.List.{List, [], _∷_, _++_, map}
@@ -10,22 +10,20 @@ use lib.Lanes.{maskL}
 use Rattle.std.specs.Iters.{counting}
 use Rattle.std.proofs.shelf.Lanes.{bit-maskL, maskL-lt}
 use Rattle.std.proofs.shelf.Counted.{getD-map-counting}
-use Rattle.standard.specs.Bits.{bit, odd}
-use Rattle.circuit.specs.Lanes.{Lane}
-use Rattle.circuit.specs.Places.{shownByte}
-use Rattle.circuit.proofs.Tests256.{tests, equal-below}
+use Rattle.standard.specs.Bits.{bit, odd, byteOf}
+use Rattle.standard.proofs.Tests.{tests, equal-below}
 
-pub shownByte-small : (σ : Lane) (base : ℕ) → shownByte σ base < 256
-unfolding shownByte
-shownByte-small σ base = maskL-lt (map (λ i. σ (base + i)) (counting 0 8))
+pub byteOf-small : (σ : ℕ → Bool) (base : ℕ) → byteOf σ base < 256
+unfolding byteOf
+byteOf-small σ base = maskL-lt (map (λ i. σ (base + i)) (counting 0 8))
 
 is-one : (b : Bool) → eqb (cond b 1 0) 1 ≡ b
 is-one true = refl
 is-one false = refl
 
-pub shownByte-bit : (σ : Lane) (base i : ℕ) → i < 8 → bit (shownByte σ base) i ≡ σ (base + i)
-unfolding shownByte bit
-shownByte-bit σ base i h =
+pub byteOf-bit : (σ : ℕ → Bool) (base i : ℕ) → i < 8 → bit (byteOf σ base) i ≡ σ (base + i)
+unfolding byteOf bit
+byteOf-bit σ base i h =
     let ms = map (λ i. σ (base + i)) (counting 0 8) in
     ap (λ (x : ℕ). eqb x 1) (bit-maskL ms i) ∙ is-one (getD ms i false) ∙ getD-map-counting (λ i. σ (base + i)) 0 8 i i false h (omega arith)
 
@@ -37,6 +35,11 @@ rebuilt : (v : ℕ) → v < 256 → maskL (map (bit v) (counting 0 8)) ≡ v
 unfolding tests bit
 rebuilt = equal-below (λ v. maskL (map (bit v) (counting 0 8))) (λ v. v) 256 tt
 
-pub shownByte-is : (σ : Lane) (base v : ℕ) → v < 256 → ((i : ℕ) → i < 8 → σ (base + i) ≡ bit v i) → shownByte σ base ≡ v
-unfolding shownByte
-shownByte-is σ base v h e = ap maskL (map-below (λ i. σ (base + i)) (bit v) 0 8 (λ i lo hi. e i hi)) ∙ rebuilt v h
+pub byteOf-is : (σ : ℕ → Bool) (base v : ℕ) → v < 256 → ((i : ℕ) → i < 8 → σ (base + i) ≡ bit v i) → byteOf σ base ≡ v
+unfolding byteOf
+byteOf-is σ base v h e = ap maskL (map-below (λ i. σ (base + i)) (bit v) 0 8 (λ i lo hi. e i hi)) ∙ rebuilt v h
+
+-- equal bits make one byte
+pub byteOf-same : (σ τ : ℕ → Bool) (base : ℕ) → ((i : ℕ) → i < 8 → σ (base + i) ≡ τ (base + i)) → byteOf σ base ≡ byteOf τ base
+unfolding byteOf
+byteOf-same σ τ base e = ap maskL (map-below (λ i. σ (base + i)) (λ i. τ (base + i)) 0 8 (λ i lo hi. e i hi))
