@@ -15,6 +15,7 @@ use Rattle.circuit.proofs.BitLaws.{table}
 use Rattle.circuit.proofs.Run.{run}
 use Rattle.circuit.specs.Places.{fitsAll}
 use Rattle.circuit.proofs.Files.{Effect}
+use Rattle.coordinates.proofs.CoordinateLaws.{to-byte}
 use Rattle.standard.proofs.Tests.{tests, small-below}
 use Rattle.circuit.proofs.Unary.{wide, start, expected, same, Bytes, unary, unary-page}
 use Rattle.circuit.proofs.PlanLaws.{Proved}
@@ -30,10 +31,6 @@ enter-fits = tt
 pub enter-ran : take 8 (run wide none (gatesOf enterPage) (start 2)) ≡ expected (toCoordinates ∷ [])
 unfolding run wide gatesOf enterPage table toCoordinates
 enter-ran = refl
-
-to-byte : (v : ℕ) → v < 256 → toCoordinates v < 256
-unfolding tests toCoordinates
-to-byte = small-below toCoordinates 256 256 tt
 
 to-bytes : Bytes (toCoordinates ∷ [])
 to-bytes zero v h = to-byte v h

@@ -1,4 +1,4 @@
--- The coordinates: both ways round, and exclusive or goes through. Then a round in coordinates is the round of FIPS 197. Assumes nothing.
+-- A round in coordinates is the round of FIPS 197. Assumes nothing.
 use mathlib.Core.Path.{_≡_, refl, sym, ap, ap₂, _∙_, subst, fun-ext}
 use mathlib.Core.Bool.{Bool, true, false, cond}
 use mathlib.Core.List.{List, [], _∷_, _++_, map}
@@ -14,46 +14,14 @@ use Rattle.bench.specs.Kinds.{apart as xorB}
 use Rattle.coordinates.specs.Coordinates.{combine, toCoordinates, fromCoordinates, basis, bitsInBasis}
 use Rattle.standard.specs.Field.{inverse, affine, mul, SBox}
 use Rattle.standard.specs.Cipher.{MixColumns, ShiftRows, AddRoundKey, Round, SubBytes}
-use Rattle.circuit.proofs.BitLaws.{bit-xor}
+use Rattle.standard.proofs.FieldLaws.{inverse-byte}
+use Rattle.coordinates.proofs.CoordinateLaws.{to-xor, from-to}
 use Rattle.standard.proofs.Tests.{tests, equal-below, small-below}
 use Rattle.circuit.proofs.Unary.{same}
 use Rattle.circuit.proofs.Inverter.{coordinateInverse}
 use Rattle.circuit.proofs.Linear.{sumOf, BytesAll}
 use Rattle.circuit.proofs.Mix.{aff1, aff2, aff3}
 use Rattle.circuit.proofs.Round.{coordinateMix, coordinateAdd, coordinateRound}
-
-four : (a b c d : ℕ) → bitXor (bitXor a b) (bitXor c d) ≡ bitXor (bitXor a c) (bitXor b d)
-four a b c d =
-    xor-assoc a b (bitXor c d) ∙ ap (bitXor a) (sym (xor-assoc b c d) ∙ ap (λ (x : ℕ). bitXor x d) (xor-comm b c) ∙ xor-assoc c b d) ∙ sym (xor-assoc a c (bitXor b d))
-
-pick : (p q : Bool) (c : ℕ) → cond (xorB p q) c 0 ≡ bitXor (cond p c 0) (cond q c 0)
-pick true true c = sym (xor-self c)
-pick true false c = sym (xor-zero-r c)
-pick false true c = refl
-pick false false c = refl
-
-combine-xor : (cs : List ℕ) (i a b : ℕ) → combine cs i (bitXor a b) ≡ bitXor (combine cs i a) (combine cs i b)
-unfolding combine
-combine-xor [] i a b = refl
-combine-xor (c ∷ cs) i a b =
-    ap₂ bitXor (ap (λ (p : Bool). cond p c 0) (bit-xor a b i) ∙ pick (bit a i) (bit b i) c) (combine-xor cs (suc i) a b)
-    ∙ four (cond (bit a i) c 0) (cond (bit b i) c 0) (combine cs (suc i) a) (combine cs (suc i) b)
-
-pub to-xor : (a b : ℕ) → toCoordinates (bitXor a b) ≡ bitXor (toCoordinates a) (toCoordinates b)
-unfolding toCoordinates
-to-xor a b = combine-xor bitsInBasis 0 a b
-
-pub from-to : (v : ℕ) → v < 256 → fromCoordinates (toCoordinates v) ≡ v
-unfolding tests fromCoordinates toCoordinates
-from-to = equal-below (λ v. fromCoordinates (toCoordinates v)) (λ v. v) 256 tt
-
-pub to-from : (v : ℕ) → v < 256 → toCoordinates (fromCoordinates v) ≡ v
-unfolding tests fromCoordinates toCoordinates
-to-from = equal-below (λ v. toCoordinates (fromCoordinates v)) (λ v. v) 256 tt
-
-pub inverse-byte : (v : ℕ) → v < 256 → inverse v < 256
-unfolding tests inverse
-inverse-byte = small-below inverse 256 256 tt
 
 pub inv-to : (v : ℕ) → v < 256 → coordinateInverse (toCoordinates v) ≡ toCoordinates (inverse v)
 unfolding coordinateInverse
@@ -113,7 +81,3 @@ coordinate-round s k small =
     all : (js : List ℕ) → BytesAll (map (λ j. inverse (s ((5 * j) % 16))) js)
     all [] = tt
     all (j ∷ js) = (inverse-byte (s ((5 * j) % 16)) (small ((5 * j) % 16)), all js)
-
-pub to-byte : (v : ℕ) → v < 256 → toCoordinates v < 256
-unfolding tests toCoordinates
-to-byte = small-below toCoordinates 256 256 tt

@@ -13,7 +13,9 @@ use Rattle.circuit.proofs.Unary.{same}
 use Rattle.circuit.proofs.Linear.{sumOf}
 use Rattle.circuit.proofs.Inverter.{coordinateInverse}
 use Rattle.circuit.proofs.Mix.{aff1}
-use Rattle.circuit.proofs.InCoordinates.{to-xor, inverse-byte, inv-to, aff1-to}
+use Rattle.circuit.proofs.InCoordinates.{inv-to, aff1-to}
+use Rattle.standard.proofs.FieldLaws.{inverse-byte}
+use Rattle.coordinates.proofs.CoordinateLaws.{to-xor}
 use Rattle.circuit.proofs.KeyPages.{plus}
 
 abbrev pub add2 : ℕ → ℕ → ℕ
@@ -29,17 +31,3 @@ sub-to v h = ap aff1 (inv-to v h) ∙ aff1-to (inverse v) (inverse-byte v h)
 pub plus-to : (n v : ℕ) → plus n (toCoordinates v) ≡ toCoordinates (bitXor v (Rcon n))
 unfolding plus
 plus-to n v = sym (to-xor v (Rcon n))
-
-xtime-byte : (a : ℕ) → xtime a < 256
-unfolding xtime
-xtime-byte a = xor-lt 8 ((a * 2) % 256) (cond (leb 128 a) 0x1b 0) (omega arith) (small (leb 128 a))
-  where
-    small : (q : Bool) → cond q 0x1b 0 < 256
-    small true = omega arith
-    small false = omega arith
-
-pub rcon-byte : (n : ℕ) → Rcon n < 256
-unfolding Rcon
-rcon-byte zero = omega arith
-rcon-byte (suc zero) = omega arith
-rcon-byte (suc (suc n)) = xtime-byte (Rcon (suc n))

@@ -24,12 +24,12 @@ use Rattle.circuit.specs.Claims.{keyValue, keysOf, keyIn, ScheduleStands, Inve
 use Rattle.circuit.proofs.Files.{Shows}
 use Rattle.circuit.proofs.PlanLaws.{Step}
 use Rattle.circuit.proofs.FileViews.{Shown}
-use Rattle.circuit.proofs.InCoordinates.{from-to}
+use Rattle.coordinates.proofs.CoordinateLaws.{from-to}
 use Rattle.standard.proofs.ByteLaws.{byteOf-small, byteOf-bit, map-below}
 use Rattle.circuit.proofs.Staged.{StageOk, stage, run-append, raw-shown, byte-read, bit-kept}
 use Rattle.circuit.proofs.Keys.{last-value, between-value}
 use Rattle.circuit.proofs.KeyMath.{add2}
-use Rattle.circuit.proofs.Expand.{first-words, later-words}
+use Rattle.standard.proofs.Words.{first-words, later-words}
 use Rattle.circuit.proofs.UnderKeys.{key-listed}
 use Rattle.circuit.proofs.Words.{Four, four, by-four, coordinates, cons4, xor-four, xor-coordinates, temp-four, temp-coordinates}
 use Rattle.circuit.proofs.KeyStages.{KeysOk, start-ok, word-ok, leave-ok, startSteps, wordSteps, leaveSteps, wordOf, tempOut, wordOut, within, startUpd, wordUpd, leaveUpd}

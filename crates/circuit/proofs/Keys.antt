@@ -15,7 +15,7 @@ use Rattle.standard.specs.Bits.{byteOf}
 use Rattle.circuit.specs.Claims.{keyValue, keysOf}
 use Rattle.standard.proofs.Tests.{tests, small-below}
 use Rattle.circuit.proofs.Round.{keyBytesAt}
-use Rattle.circuit.proofs.InCoordinates.{to-from}
+use Rattle.coordinates.proofs.CoordinateLaws.{to-from}
 use Rattle.standard.proofs.ByteLaws.{byteOf-small, map-below}
 use Rattle.circuit.proofs.Staged.{raw}
 

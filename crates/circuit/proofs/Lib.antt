@@ -12,7 +12,6 @@ pub mod Ends
 pub mod KeyPages
 pub mod Round
 pub mod InCoordinates
-pub mod CipherBytes
 pub mod FileViews
 pub mod Staged
 pub mod SealStages
@@ -22,7 +21,6 @@ pub mod OpenStages
 pub mod OpenMath
 pub mod OpenStands
 pub mod KeyMath
-pub mod Expand
 pub mod KeyStages
 pub mod Words
 pub mod UnderKeys

@@ -15,6 +15,7 @@ use Rattle.std.specs.Iters.{counting}
 use Rattle.std.proofs.shelf.Tests.{cases-lt, ne-eqb, cases-eq}
 use Rattle.std.proofs.shelf.Lists.{getD-take, getD-drop, getD-append-left, getD-append-right, length-append, length-map, length-replicate}
 use Rattle.std.proofs.shelf.Counted.{getD-map-counting, length-counting}
+use Rattle.standard.specs.States.{Bytes as AllBytes}
 use Rattle.standard.specs.Bits.{bit, odd}
 use Rattle.bench.specs.Kinds.{apart as xorB, result}
 use Rattle.coordinates.specs.Coordinates.{combine}
@@ -185,8 +186,7 @@ AffineAll [] = Unit {0}
 AffineAll (F ∷ Fs) = Affine F × AffineAll Fs
 
 abbrev pub BytesAll : List ℕ → Type 0
-BytesAll [] = Unit {0}
-BytesAll (v ∷ vs) = (v < 256) × BytesAll vs
+BytesAll vs = AllBytes vs
 
 pub sum-byte : (Fs : List (ℕ → ℕ)) (vs : List ℕ) → AffineAll Fs → BytesAll vs → sumOf Fs vs < 256
 sum-byte [] vs a b = omega arith

@@ -15,37 +15,15 @@ use Rattle.circuit.proofs.Linear.{BytesAll}
 use Rattle.circuit.proofs.Inverter.{coordinateInverse}
 use Rattle.circuit.proofs.Round.{coordinateAdd}
 use Rattle.circuit.proofs.Unmix.{times}
-use Rattle.circuit.proofs.InCoordinates.{from-to, inv-to, coordinate-add, sum4, cons4}
-use Rattle.circuit.proofs.CipherBytes.{add-bytes, bytes-at, bytes-map}
+use Rattle.circuit.proofs.InCoordinates.{inv-to, coordinate-add, sum4, cons4}
+use Rattle.standard.proofs.FieldLaws.{invAffine-byte, InvSBox-byte}
+use Rattle.standard.proofs.StateLaws.{add-bytes, bytes-at, bytes-map}
+use Rattle.coordinates.proofs.CoordinateLaws.{from-to}
 use Rattle.circuit.proofs.OpenStages.{unaff, unsub, coordinateUnmix}
-
-unaffine-byte : (v : ℕ) → v < 256 → invAffine v < 256
-unfolding tests invAffine
-unaffine-byte = small-below invAffine 256 256 tt
-
-pub invSbox-byte : (v : ℕ) → v < 256 → InvSBox v < 256
-unfolding tests InvSBox
-invSbox-byte = small-below InvSBox 256 256 tt
-
-mul9-byte : (v : ℕ) → v < 256 → mul 9 v < 256
-unfolding tests mul
-mul9-byte = small-below (mul 9) 256 256 tt
-
-mul11-byte : (v : ℕ) → v < 256 → mul 11 v < 256
-unfolding tests mul
-mul11-byte = small-below (mul 11) 256 256 tt
-
-mul13-byte : (v : ℕ) → v < 256 → mul 13 v < 256
-unfolding tests mul
-mul13-byte = small-below (mul 13) 256 256 tt
-
-mul14-byte : (v : ℕ) → v < 256 → mul 14 v < 256
-unfolding tests mul
-mul14-byte = small-below (mul 14) 256 256 tt
 
 unsub-to : (v : ℕ) → v < 256 → coordinateInverse (unaff (toCoordinates v)) ≡ toCoordinates (InvSBox v)
 unfolding unaff InvSBox
-unsub-to v h = ap (λ (x : ℕ). coordinateInverse (toCoordinates (invAffine x))) (from-to v h) ∙ inv-to (invAffine v) (unaffine-byte v h)
+unsub-to v h = ap (λ (x : ℕ). coordinateInverse (toCoordinates (invAffine x))) (from-to v h) ∙ inv-to (invAffine v) (invAffine-byte v h)
 
 -- the state s in coordinates, through InvShiftRows and InvSubBytes
 pub coordinate-unsub : (s : ℕ → ℕ) → ((j : ℕ) → s j < 256) → unsub (map (λ j. toCoordinates (s j)) (counting 0 16)) ≡ map toCoordinates (InvSubBytes (InvShiftRows (sixteen s)))
@@ -71,36 +49,7 @@ coordinate-unmix (a ∷ b ∷ c ∷ d ∷ rest) h =
 
 -- ---- bytes
 pub unsub-bytes : (xs : List ℕ) → BytesAll xs → BytesAll (InvSubBytes (InvShiftRows xs))
-unsub-bytes xs h = bytes-map (λ j. InvSBox (getD xs ((13 * j) % 16) 0)) (λ j. invSbox-byte (getD xs ((13 * j) % 16) 0) (bytes-at xs h ((13 * j) % 16))) (counting 0 16)
-
-xor4 : (a b c d : ℕ) → a < 256 → b < 256 → c < 256 → d < 256 → bitXor a (bitXor b (bitXor c d)) < 256
-xor4 a b c d ha hb hc hd = xor-lt 8 a (bitXor b (bitXor c d)) ha (xor-lt 8 b (bitXor c d) hb (xor-lt 8 c d hc hd))
-
-unmix-bytes : (xs : List ℕ) → BytesAll xs → BytesAll (InvMixColumns xs)
-unmix-bytes [] h = tt
-unmix-bytes (a ∷ []) h = tt
-unmix-bytes (a ∷ b ∷ []) h = tt
-unmix-bytes (a ∷ b ∷ c ∷ []) h = tt
-unmix-bytes (a ∷ b ∷ c ∷ d ∷ rest) h =
-    let ha = h .0 in let hb = h .1 .0 in let hc = h .1 .1 .0 in let hd = h .1 .1 .1 .0 in (
-      xor4 (mul 14 a) (mul 11 b) (mul 13 c) (mul 9 d) (mul14-byte a ha) (mul11-byte b hb) (mul13-byte c hc) (mul9-byte d hd),
-      (
-        xor4 (mul 9 a) (mul 14 b) (mul 11 c) (mul 13 d) (mul9-byte a ha) (mul14-byte b hb) (mul11-byte c hc) (mul13-byte d hd),
-        (
-          xor4 (mul 13 a) (mul 9 b) (mul 14 c) (mul 11 d) (mul13-byte a ha) (mul9-byte b hb) (mul14-byte c hc) (mul11-byte d hd),
-          (
-            xor4 (mul 11 a) (mul 13 b) (mul 9 c) (mul 14 d) (mul11-byte a ha) (mul13-byte b hb) (mul9-byte c hc) (mul14-byte d hd),
-            unmix-bytes rest (h .1 .1 .1 .1),
-          ),
-        ),
-      ),
-    )
+unsub-bytes xs h = bytes-map (λ j. InvSBox (getD xs ((13 * j) % 16) 0)) (λ j. InvSBox-byte (getD xs ((13 * j) % 16) 0) (bytes-at xs h ((13 * j) % 16))) (counting 0 16)
 
 pub added-bytes : (xs : List ℕ) (k : ℕ → ℕ) → BytesAll xs → ((j : ℕ) → k j < 256) → BytesAll (AddRoundKey (InvSubBytes (InvShiftRows xs)) (sixteen k))
 added-bytes xs k h hk = add-bytes (InvSubBytes (InvShiftRows xs)) (sixteen k) (unsub-bytes xs h) (bytes-map k hk (counting 0 16))
-
-pub inv-bytes : (nr : ℕ) (b : ℕ → ℕ) (ks : ℕ → ℕ → ℕ) → ((j : ℕ) → b j < 256) → ((n j : ℕ) → ks n j < 256) → (n : ℕ) → BytesAll (invStateAfter nr n (sixteen b) (λ m. sixteen (ks m)))
-inv-bytes nr b ks hb hk zero = add-bytes (sixteen b) (sixteen (ks nr)) (bytes-map b hb (counting 0 16)) (bytes-map (ks nr) (hk nr) (counting 0 16))
-inv-bytes nr b ks hb hk (suc n) =
-    let prev = invStateAfter nr n (sixteen b) (λ m. sixteen (ks m)) in
-    unmix-bytes (AddRoundKey (InvSubBytes (InvShiftRows prev)) (sixteen (ks (nr - 1 - n)))) (added-bytes prev (ks (nr - 1 - n)) (inv-bytes nr b ks hb hk n) (hk (nr - 1 - n)))

@@ -17,14 +17,16 @@ use Rattle.circuit.specs.Lanes.{Lane, runPlan}
 use Rattle.circuit.specs.Claims.{stateOf, keysOf, OpenStands, Inverts}
 use Rattle.circuit.proofs.Linear.{BytesAll}
 use Rattle.circuit.proofs.Round.{coordinateAdd, keyBytesAt}
-use Rattle.circuit.proofs.InCoordinates.{from-to, coordinate-add}
+use Rattle.circuit.proofs.InCoordinates.{coordinate-add}
 use Rattle.standard.proofs.ByteLaws.{byteOf-small}
-use Rattle.circuit.proofs.CipherBytes.{bytes-at}
+use Rattle.standard.proofs.StateLaws.{bytes-at, sixteen-state}
+use Rattle.standard.proofs.Rounds.{invStateAfter-state}
+use Rattle.coordinates.proofs.CoordinateLaws.{from-to}
 use Rattle.circuit.proofs.Staged.{raw, states, state-after, kept-after}
 use Rattle.circuit.proofs.Keys.{keyByte, key-small, key-last, key-between, some-rounds}
 use Rattle.circuit.proofs.SealStands.{plain-add, behind}
 use Rattle.circuit.proofs.OpenStages.{openSteps, openOut, open-ok, unsub, coordinateUnmix}
-use Rattle.circuit.proofs.OpenMath.{coordinate-unsub, coordinate-unmix, unsub-bytes, added-bytes, inv-bytes}
+use Rattle.circuit.proofs.OpenMath.{coordinate-unsub, coordinate-unmix, unsub-bytes, added-bytes}
 
 mid-out : (nr n : ℕ) (st k : List ℕ) → (n ≡ 0 → ⊥) → (n ≡ nr → ⊥) → openOut nr n st k ≡ coordinateUnmix (coordinateAdd (unsub st) k)
 mid-out nr n st k a b =
@@ -75,7 +77,7 @@ module _ (inv : List ℕ) (E : Inverts inv) (κ : KeyKind) (σ : Lane) where
   reached = state-after inv (free κ - 16) (rounds κ) (openStage κ) (openTo κ) (to-first κ) (to-more κ) (openSteps E κ) (out κ) (open-ok E κ) σ
 
   bytes : (n : ℕ) → BytesAll (after n)
-  bytes n = inv-bytes (rounds κ) (raw σ) (keyByte κ σ) (λ j. byteOf-small σ (8 * j)) (key-small κ σ) n
+  bytes n = invStateAfter-state (stateOf σ) (keysOf κ σ) (sixteen-state (raw σ) (λ j. byteOf-small σ (8 * j))) (λ m. sixteen-state (keyByte κ σ m) (key-small κ σ m)) (rounds κ) n .1
 
   all-left : rounds κ - 0 ≡ rounds κ
   all-left = omega arith

@@ -21,9 +21,12 @@ use Rattle.circuit.specs.Claims.{stateOf, keysOf, SealStands, Inverts}
 use Rattle.circuit.proofs.Inverter.{coordinateInverse}
 use Rattle.circuit.proofs.Ends.{finish}
 use Rattle.circuit.proofs.Round.{coordinateRound, coordinateAdd, keyBytesAt}
-use Rattle.circuit.proofs.InCoordinates.{coordinate-round, from-to, inverse-byte, inv-to}
+use Rattle.circuit.proofs.InCoordinates.{coordinate-round, inv-to}
 use Rattle.standard.proofs.ByteLaws.{byteOf-small}
-use Rattle.circuit.proofs.CipherBytes.{bytes-at, cipher-bytes}
+use Rattle.standard.proofs.FieldLaws.{inverse-byte}
+use Rattle.standard.proofs.StateLaws.{bytes-at, sixteen-state}
+use Rattle.standard.proofs.Rounds.{stateAfter-state}
+use Rattle.coordinates.proofs.CoordinateLaws.{from-to}
 use Rattle.circuit.proofs.Staged.{raw, states, state-after, kept-after}
 use Rattle.circuit.proofs.Keys.{keyByte, key-small, key-last, key-between, some-rounds}
 use Rattle.circuit.proofs.SealStages.{stageSteps, stageOut, stage-ok}
@@ -83,7 +86,7 @@ module _ (inv : List ℕ) (E : Inverts inv) (κ : KeyKind) (σ : Lane) where
   shown n = states inv (free κ - 16) (rounds κ) (stagePlan κ) (stagesTo κ) (to-first κ) (to-more κ) (stageSteps E κ) (out κ) (stage-ok E κ) σ n
 
   small : (n j : ℕ) → getD (after n) j 0 < 256
-  small n = bytes-at (after n) (cipher-bytes (raw σ) (keyByte κ σ) (λ j. byteOf-small σ (8 * j)) (key-small κ σ) n)
+  small n = bytes-at (after n) (stateAfter-state (stateOf σ) (keysOf κ σ) (sixteen-state (raw σ) (λ j. byteOf-small σ (8 * j))) (λ m. sixteen-state (keyByte κ σ m) (key-small κ σ m)) n .1)
 
   reached : (n : ℕ) → n ≤ rounds κ → stateOf (runPlan inv (stagesTo κ n) σ) ≡ sixteen (λ j. getD (shown n) j 0)
   reached = state-after inv (free κ - 16) (rounds κ) (stagePlan κ) (stagesTo κ) (to-first κ) (to-more κ) (stageSteps E κ) (out κ) (stage-ok E κ) σ

@@ -11,9 +11,10 @@ use lib.Lanes.{zip2}
 use Rattle.standard.specs.Field.{SBox}
 use Rattle.standard.specs.KeyExpansion.{Rcon, Word, xorWord, temp}
 use Rattle.coordinates.specs.Coordinates.{toCoordinates}
-use Rattle.circuit.proofs.CipherBytes.{sbox-byte}
+use Rattle.standard.proofs.FieldLaws.{SBox-byte}
+use Rattle.standard.proofs.Words.{Rcon-byte}
 use Rattle.circuit.proofs.KeyPages.{plus}
-use Rattle.circuit.proofs.KeyMath.{add2, add2-to, sub-to, plus-to, rcon-byte}
+use Rattle.circuit.proofs.KeyMath.{add2, add2-to, sub-to, plus-to}
 use Rattle.circuit.proofs.KeyStages.{subOut, tempOut}
 
 pub record Four (w : Word) : Type 0 where
@@ -49,9 +50,9 @@ module _ (nk i : ℕ) (w : Word) (hw : Four w) where
       (λ a b c d ha hb hc hd. go a b c d ha hb hc hd (eqb (i % nk) 0) (ltb 6 nk && eqb (i % nk) 4)) w hw
     where
       go : (a b c d : ℕ) → a < 256 → b < 256 → c < 256 → d < 256 → (p q : Bool) → Four (cond p (bitXor (SBox b) (Rcon (i / nk)) ∷ bitXor (SBox c) 0 ∷ bitXor (SBox d) 0 ∷ bitXor (SBox a) 0 ∷ []) (cond q (SBox a ∷ SBox b ∷ SBox c ∷ SBox d ∷ []) (a ∷ b ∷ c ∷ d ∷ [])))
-      go a b c d ha hb hc hd true q = four _ _ _ _ (xor-lt 8 (SBox b) (Rcon (i / nk)) (sbox-byte b hb) (rcon-byte (i / nk)))
-          (xor-lt 8 (SBox c) 0 (sbox-byte c hc) (omega arith)) (xor-lt 8 (SBox d) 0 (sbox-byte d hd) (omega arith)) (xor-lt 8 (SBox a) 0 (sbox-byte a ha) (omega arith))
-      go a b c d ha hb hc hd false true = four _ _ _ _ (sbox-byte a ha) (sbox-byte b hb) (sbox-byte c hc) (sbox-byte d hd)
+      go a b c d ha hb hc hd true q = four _ _ _ _ (xor-lt 8 (SBox b) (Rcon (i / nk)) (SBox-byte b hb) (Rcon-byte (i / nk)))
+          (xor-lt 8 (SBox c) 0 (SBox-byte c hc) (omega arith)) (xor-lt 8 (SBox d) 0 (SBox-byte d hd) (omega arith)) (xor-lt 8 (SBox a) 0 (SBox-byte a ha) (omega arith))
+      go a b c d ha hb hc hd false true = four _ _ _ _ (SBox-byte a ha) (SBox-byte b hb) (SBox-byte c hc) (SBox-byte d hd)
       go a b c d ha hb hc hd false false = four a b c d ha hb hc hd
 
   pub temp-coordinates : tempOut nk i (coordinates w) ≡ coordinates (temp nk i w)
