@@ -18,8 +18,8 @@ xnor-self false = refl
 
 pub sets-all : (m : Model) → m .registers ≡ 208 → m .left ≡ 1
     → (playAnswer m settingPage bases ≡ Ok tt)
-      × ((l : ℕ) → l < m .lanes → played settingPage bases m .bit 200 l ≡ true)
-      × (played settingPage bases m .left ≡ 0)
+    × ((l : ℕ) → l < m .lanes → played settingPage bases m .bit 200 l ≡ true)
+    × (played settingPage bases m .left ≡ 0)
 unfolding kindsNamed numbersBelow gatesOf registerOf basesAt played gated
 sets-all m r e = (rw (r, e), (λ l h. let p = lt-ltb l (m .lanes) h in rw p (xnor-self (m .bit 200 l))), ap (λ n. n - 1) e)
 

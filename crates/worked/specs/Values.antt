@@ -74,7 +74,7 @@ bases = 200 ∷ 200 ∷ []
 pub record ValuesStand : Type 0 where
   pub table : computed ≡ values
   pub sets : (m : Model) → m .registers ≡ 208 → m .left ≡ 1
-    → (playAnswer m settingPage bases ≡ Ok tt)
+      → (playAnswer m settingPage bases ≡ Ok tt)
       × ((l : ℕ) → l < m .lanes → played settingPage bases m .bit 200 l ≡ true)
       × (played settingPage bases m .left ≡ 0)
   pub empty : (whole emptyPage ≡ true) × ((m : Model) → 208 ≤ m .registers → m .left ≡ 0 → (playAnswer m emptyPage bases ≡ Ok tt) × (played emptyPage bases m ≡ m))
