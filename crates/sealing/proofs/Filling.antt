@@ -242,3 +242,11 @@ sealed-gives v₀ v input n z some le gates h l lt =
       accepted = reading-none (shape v₂) l size₂ in-lane has;
       state = block-of (getD (v₂ .records) l empty .block) (stateOf (v₂ .model) l) _ _ has (ap (λ (p : Page). turnedPage (encrypted kind) p .block) (book-at input n l lt)) (held .lane l in-lane .1);
     })
+
+-- a unit made on a bench of 64 lanes with room and gates enough
+pub lane-gives : (m : Model) (x : Memory) (u : View) (input : List ℕ) (n : ℕ) → 2048 ≤ m .registers → m .lanes ≡ 64 → 30000 ≤ m .left → 1 ≤ n → n ≤ 64 → 16 * (n + 1) ≤ length input → Bytes input
+    → u ≡ turned (filled (made m x) input n) → (l : ℕ) → l < n → Gives u input l
+lane-gives m x u input n room lanes gates some few long small is l lt =
+    let size : Sized (shape (made m x)) = record { room = room; some = omega (arith, lanes); few = omega (arith, lanes) } in
+    let P : View → Type 0 = λ v. Gives v input l in
+    subst P (sym is) (sealed-gives (made m x) (filled (made m x) input n) input n size some (omega (arith, lanes)) gates (fill-all m x input n size (omega (arith, lanes)) long small) l lt)

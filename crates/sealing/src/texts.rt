@@ -34,7 +34,8 @@ const REFUSED: [u8; 10] = *b"refused 6\n";
 // Writes the lines of `count` blocks, sealed on a bench of zeros.
 fn seal_lines(input: &[u8], count: usize, out: &mut [u8])
     requires { ⌜ 16 * (count + 1) ≤ length (now input) ⌝ ∗ ⌜ 1 ≤ count ⌝ ∗ ⌜ count ≤ 64 ⌝ ∗ ⌜ 33 * count ≤ length (now out) ⌝ }
-    ensures { λ _. ⌜ now (out .exit) ≡ sealedLines (now (input .entry)) count ++ drop (33 * count) (now (out .entry)) ⌝ }
+    ensures text { λ _. ⌜ now (out .exit) ≡ sealedLines (now (input .entry)) count ++ drop (33 * count) (now (out .entry)) ⌝ }
+    ensures size { λ _. ⌜ length (sealedLines (now (input .entry)) count) ≡ 33 * count ⌝ }
 {
     let mut words = [0u64; 2_048];
     let mut unit = CipherUnit::new(WordBench::new(&mut words, MOST_GATES));
