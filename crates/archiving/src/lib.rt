@@ -1,0 +1,11 @@
+// The archive: a text from which blocks can be recovered by hand, with every page, plan and number in it.
+pub mod gates;
+pub mod traces;
+mod names;
+mod lines;
+mod listings;
+mod prose;
+mod steps;
+mod planlists;
+mod examples;
+pub mod archives;
