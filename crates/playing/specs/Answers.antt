@@ -1,5 +1,7 @@
 -- The text of an answer. Assumes nothing.
 --
+--   spaced ns      numbers, each with a space before it
+--   partName p     the word for a part
 --   answerText a   the answer, as it is written
 --   answerLine a   the same with the byte 10 that ends its line
 use Prim.Native.Nat.{ℕ}

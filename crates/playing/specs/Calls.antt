@@ -1,11 +1,13 @@
 -- A call, and what it answers and leaves. Assumes nothing.
 --
---   Call                 a call of a script, with its numbers and bytes as lists
---   meant c              the call that a command stands for
---   callAnswer m p c     the answer to the call c, on a bench of the meaning m with the page p kept
---   callLeaves m p c     the meaning after that call
---   callBeneath m p c x  the bottom benches x after that call
---   callKeeps p c        the page kept after that call
+--   Call                  a call of a script, with its numbers and bytes as lists
+--   meant c               the call that a command stands for
+--   doneOr r, bitOr r     the answer to a call that a bench or the player did or refused
+--   pageAnswer bytes      the answer to a page
+--   callAnswer m p c      the answer to the call c, on a bench of the meaning m with the page p kept
+--   callLeaves m p c      the meaning after that call
+--   callBeneath m p c x   the bottom benches x after that call
+--   callKeeps p c         the page kept after that call
 use Prim.Native.Nat.{ℕ}
 use mathlib.Core.Bool.{Bool, cond}
 use mathlib.Core.List.{List}

@@ -1,11 +1,20 @@
 -- How a line writes a call. Assumes nothing.
 --
---   verbIn w       the call that the word w names
---   shortIn w      the number that the word w writes, up to 65535
---   shortsIn ws    all of those numbers
---   callIn ws      the call that the words ws of a line write
---   commandIn l    the call that the line l writes
---   silent l       whether the line l is empty, of spaces only, or begins with `#`
+--   silent l              whether the line l is empty, of spaces only, or begins with `#`
+--   verbIn w              the call that the word w names
+--   upTo most n           the number n, if it is at most that
+--   shortIn w             the number that the word w writes, up to 65535
+--   shortsIn ws           all of those numbers
+--   aloneIn c ns          the call c, where no number follows its name
+--   setIn ns, showIn ns   the calls of a register in a lane, from the numbers after their names
+--   gateOf k t a b        a gate of that kind, if there is such a kind
+--   gateIn ns             the gate that the numbers after its name write
+--   called v ns           the call of that name with those numbers
+--   calledWith v o        the same, where the numbers could be read
+--   pageIn ws             the page that the words after its name write
+--   callNamed v ws        the call of that name with those words
+--   callIn ws             the call that the words ws of a line write
+--   commandIn l           the call that the line l writes
 use Prim.Native.Nat.{ℕ}
 use mathlib.Core.Bool.{Bool, cond, _&&_, _||_}
 use mathlib.Core.List.{List, [], _∷_}

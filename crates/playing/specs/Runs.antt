@@ -1,7 +1,18 @@
 -- A whole script: what is written for it. Assumes nothing.
 --
---   answers m p n ls    what is written for the lines ls, of which the first is line n, on a bench of the meaning m with the page p kept
---   scriptText room t   what is written for the script t; room says whether there was memory for its bench
+--   answerTo m p n o      the answer to line n, which writes the call o, on a bench of the meaning m with the page p kept
+--   leaves m p o          the meaning after that line
+--   keeps p o             the page kept after that line
+--   lineText m p n l      what is written for the line l, which may be silent
+--   lineLeaves m p l      the meaning after it
+--   lineKeeps p l         the page kept after it
+--   answers m p n ls      what is written for the lines ls, of which the first is line n
+--   outcome room m n ls   the same for a bench of the meaning m at first; room says whether there was memory for it
+--   opened room n o ls    what is written from line n on, which is to write the bench and writes o
+--   fromLine room n ls    what is written from line n on, where no bench stands yet
+--   scriptText room t     what is written for the script t
+--   Answered, Stepped     one line answered, and one line done
+--   Wrote                 the outcome appended, with memory for the bench or without
 use Prim.Native.Nat.{ℕ, _+_}
 use mathlib.Core.Path.{_≡_}
 use mathlib.Core.Bool.{Bool, cond}

@@ -1,10 +1,19 @@
 -- How a line writes a bench, and the bench that it writes, over memory of zeros. Assumes nothing.
 --
---   singleIn ws    the one bench that the words ws begin with
---   wordsOf s      how many words write that bench
---   setupIn ws     the bench that the words ws write: one, or two side by side
---   benchIn l      the bench that the line l writes
---   opens s        the meaning of that bench at first
+--   wordBench n a        a bench of n words and the allotment a, if both could be read
+--   rowBench w n a       a bench of n bytes in rows of w, and the allotment a
+--   singleIn ws          the one bench that the words ws begin with
+--   wordsOf s            how many words write that bench
+--   pastBench ws         the words after the word `bench`, where they begin with it
+--   single s, pair s t   one bench, and two side by side
+--   secondIn s o ws      the first bench s and the second, with no word after it
+--   joinedIn s ws        what the first bench and the words after it write
+--   firstIn o ws         the same, where the first bench could be read
+--   setupIn ws           the bench that the words ws write: one, or two side by side
+--   benchIn l            the bench that the line l writes
+--   opensOne s           the meaning of one bench at first
+--   beside m o           a bench of the meaning m with a second one beside it, if any
+--   opens s              the meaning at first of the bench that is written
 use Prim.Native.Nat.{ℕ, min}
 use mathlib.Core.Bool.{Bool, cond}
 use mathlib.Core.List.{List, [], _∷_}

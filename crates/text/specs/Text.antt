@@ -1,13 +1,29 @@
 -- The text of scripts, as bytes: what is read from it and what is written to it. Assumes nothing.
 --
---   lineOf text, afterLine text   the first line, without the byte 10 that ends it, and what follows that byte
---   linesIn text                  all the lines; a text that ends with byte 10 has no empty line after that
---   wordOf line, afterWord line   the first run of bytes other than 32, after any bytes 32, and what follows it
---   wordsIn line                  all the words
---   numberIn word                 the number that decimal digits write, below 2 ^ 64
---   bytesIn word                  the bytes that pairs of lower-case hexadecimal digits write; none for `-`
---   decimal n                     the decimal digits of n, without leading zeros
---   hexText bytes                 two lower-case hexadecimal digits for each byte; `-` for none
+--   before stop bytes   how many bytes stand before the first byte stop
+--   lineOf text         the first line, without the byte 10 that ends it
+--   afterLine text      what follows that byte
+--   onFirst b ls        the lines ls with the byte b in front of the first
+--   linesIn text        all the lines; a text that ends with byte 10 has no empty line after that
+--   fromWord line       the line from its first byte other than 32 on
+--   wordOf line         the first word: a run of bytes other than 32, after any bytes 32
+--   afterWord line      what follows the first word
+--   onWord b bs ws      the words ws of bs with the byte b in front of bs
+--   wordsIn line        all the words
+--   isDigit b           whether a byte is a decimal digit
+--   allDigits bs        whether each byte is one
+--   valueAfter n bs     the number that digits write after those of the number n
+--   numberIn word       the number that decimal digits write, below 2 ^ 64
+--   hexValue b          the value of a lower-case hexadecimal digit
+--   pairValue h l       the byte of two such values
+--   withFirst o ns      numbers with one more in front, if all were read
+--   pairsIn word        the bytes that pairs of such digits write
+--   bytesIn word        the same for one pair at least; no bytes for `-`
+--   decimalBy k n       the last k decimal digits of n, or all where there are fewer
+--   decimal n           the decimal digits of n, without leading zeros
+--   hexDigit d          the lower-case hexadecimal digit of a value below 16
+--   hexPairs bytes      two such digits for each byte
+--   hexText bytes       the same, and `-` for no bytes
 use Prim.Native.Nat.{ℕ, zero, suc, _+_, _-_, _*_, _/_, _%_, _^_}
 use mathlib.Core.Bool.{Bool, true, false, not, cond, _&&_}
 use mathlib.Core.List.{List, [], _∷_, _++_}
