@@ -35,10 +35,10 @@ module _ (ws : List (List ℕ)) (k : ℕ) (l : List ℕ) (e : wordsIn l ≡ drop
 pub one-word : (l : List ℕ) → length (wordOf (afterWord l)) ≡ 0 → pageIn (wordsIn l) ≡ mapped page (bytesIn (wordOf l))
 one-word l e =
     ⊎-elim
-      (λ some. ap pageIn (some-words l some ∙ ap (λ ws. wordOf l ∷ ws) (no-words (afterWord l) e)))
-      (λ none. let zero-long : length (wordOf l) ≡ 0 = omega arith in
-        ap pageIn (no-words l zero-long) ∙ sym (ap (λ w. mapped page (bytesIn w)) (first-word l ∙ ap (λ (xs : List (List ℕ)). getD xs 0 []) (no-words l zero-long))))
-      (cases-lt 0 (length (wordOf l)))
+    (λ some. ap pageIn (some-words l some ∙ ap (λ ws. wordOf l ∷ ws) (no-words (afterWord l) e)))
+    (λ none. let zero-long : length (wordOf l) ≡ 0 = omega arith in
+    ap pageIn (no-words l zero-long) ∙ sym (ap (λ w. mapped page (bytesIn w)) (first-word l ∙ ap (λ (xs : List (List ℕ)). getD xs 0 []) (no-words l zero-long))))
+    (cases-lt 0 (length (wordOf l)))
 
 pub two-words : (l : List ℕ) → 0 < length (wordOf (afterWord l)) → pageIn (wordsIn l) ≡ None
 two-words l h =

@@ -19,4 +19,4 @@ refusal start r s p q = simp append-assoc
 pub refusal-pushed : {X Y : Type 0} (o : Result X Y) (start a b d all r s p q : List ℕ) → a ≡ start ++ (r ++ s) → b ≡ a ++ (32 ∷ []) → d ≡ b ++ p → made o (λ _. all ≡ d ++ q) → made o (λ _. all ≡ start ++ (r ++ (s ++ ((32 ∷ p) ++ q))))
 refusal-pushed o start a b d all r s p q e f g h =
     made-weaker o (λ _. all ≡ d ++ q) (λ _. all ≡ start ++ (r ++ (s ++ ((32 ∷ p) ++ q))))
-      (λ _ k. k ∙ ap (λ l. l ++ q) (g ∙ ap (λ l. l ++ p) (f ∙ ap (λ l. l ++ (32 ∷ [])) e)) ∙ refusal start r s p q) h
+    (λ _ k. k ∙ ap (λ l. l ++ q) (g ∙ ap (λ l. l ++ p) (f ∙ ap (λ l. l ++ (32 ∷ [])) e)) ∙ refusal start r s p q) h

@@ -8,7 +8,11 @@ pub enum Answer {
     Lanes(u16),
     Left(u32),
     Bit(bool),
-    Page { gates: u16, sockets: u16, scratch: u16 },
+    Page {
+        gates: u16,
+        sockets: u16,
+        scratch: u16,
+    },
     Refused(Fault),
     Unreadable(u64),
 }

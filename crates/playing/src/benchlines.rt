@@ -71,7 +71,10 @@ fn read_joined(first: Single, line: &[u8]) -> Option<Setup>
 {
     let (plus, rest) = split_word(line);
     if plus.is_empty() {
-        return Some(Setup { first, second: None });
+        return Some(Setup {
+            first,
+            second: None,
+        });
     }
     if !is_word(plus, b"+") {
         return None;

@@ -58,7 +58,11 @@ pub fn perform<B: Bench>(bench: &mut B, kept: &mut Vec<u8>, command: Command) ->
         Command::Registers => Answer::Registers(bench.registers()),
         Command::Lanes => Answer::Lanes(bench.lanes()),
         Command::Left => Answer::Left(bench.left()),
-        Command::Set { register, lane, bit } => done_or(bench.set(register, lane, bit)),
+        Command::Set {
+            register,
+            lane,
+            bit,
+        } => done_or(bench.set(register, lane, bit)),
         Command::Show { register, lane } => bit_or(bench.show(register, lane)),
         Command::Gate(gate) => done_or(bench.gate(gate.kind, gate.target, gate.first, gate.second)),
         Command::Page(bytes) => keep_page(kept, bytes),

@@ -19,6 +19,7 @@ use text::reads::number;
 use text::reads::split_word;
 
 const COMMENT: u8 = b'#';
+
 const MOST_SHORT: u64 = 65_535;
 
 // Whether a line is one that is not answered.
@@ -129,7 +130,11 @@ fn gate_command(numbers: &[u16]) -> Option<Command>
 fn alone(command: Command, numbers: &[u16]) -> Option<Command>
     ensures { λ r. ⌜ mapped meant r ≡ aloneIn (meant command) (now (numbers .entry)) ⌝ }
 {
-    if numbers.is_empty() { Some(command) } else { None }
+    if numbers.is_empty() {
+        Some(command)
+    } else {
+        None
+    }
 }
 
 fn command_of(verb: Verb, numbers: Vec<u16>) -> Option<Command>

@@ -32,7 +32,13 @@ use text::reads::split_line;
 use text::writes::push_text;
 
 // The answer to a line that is not silent.
-fn respond<B: Bench>(heap: Global, bench: &mut B, kept: &mut Vec<u8>, line: &[u8], number: u64) -> Result<Answer, AllocError>
+fn respond<B: Bench>(
+    heap: Global,
+    bench: &mut B,
+    kept: &mut Vec<u8>,
+    line: &[u8],
+    number: u64,
+) -> Result<Answer, AllocError>
     ensures { λ r. ⌜ made r (λ a. Answered (told registers lanes left shows (now (bench .entry))) (vec-items (now (kept .entry))) number (now (line .entry)) a (told registers lanes left shows (now (bench .exit))) (vec-items (now (kept .exit)))) ⌝ }
 {
     match read_command(heap, line)? {
@@ -42,7 +48,14 @@ fn respond<B: Bench>(heap: Global, bench: &mut B, kept: &mut Vec<u8>, line: &[u8
 }
 
 // Does one line, and appends its answer, if it has one.
-fn answer_line<B: Bench>(heap: Global, bench: &mut B, kept: &mut Vec<u8>, line: &[u8], number: u64, out: &mut Vec<u8>) -> Result<(), AllocError>
+fn answer_line<B: Bench>(
+    heap: Global,
+    bench: &mut B,
+    kept: &mut Vec<u8>,
+    line: &[u8],
+    number: u64,
+    out: &mut Vec<u8>,
+) -> Result<(), AllocError>
     ensures { λ r. ⌜ made r (λ _. Stepped (told registers lanes left shows (now (bench .entry))) (vec-items (now (kept .entry))) number (now (line .entry)) (vec-items (now (out .entry))) (vec-items (now (out .exit))) (told registers lanes left shows (now (bench .exit))) (vec-items (now (kept .exit)))) ⌝ }
 {
     if is_silent(line) {
@@ -53,7 +66,13 @@ fn answer_line<B: Bench>(heap: Global, bench: &mut B, kept: &mut Vec<u8>, line: 
 }
 
 // Answers the lines of the text, before which `passed` lines stood.
-fn run<B: Bench>(heap: Global, bench: &mut B, text: &[u8], passed: u64, out: &mut Vec<u8>) -> Result<(), AllocError>
+fn run<B: Bench>(
+    heap: Global,
+    bench: &mut B,
+    text: &[u8],
+    passed: u64,
+    out: &mut Vec<u8>,
+) -> Result<(), AllocError>
     requires { ⌜ passed + length (now text) < 2 ^ 64 ⌝ }
     ensures { λ r. ⌜ made r (λ _. vec-items (now (out .exit)) ≡ vec-items (now (out .entry)) ++ answers (told registers lanes left shows (now (bench .entry))) [] (passed + 1) (linesIn (now (text .entry)))) ⌝ }
 {
@@ -76,20 +95,38 @@ fn push_no_memory(out: &mut Vec<u8>) -> Result<(), AllocError>
 }
 
 // Answers the text on the first bench, beside which the second stands, if any.
-fn run_beside<F: Bench + Drop>(heap: Global, mut first: F, second: Option<Single>, text: &[u8], passed: u64, out: &mut Vec<u8>) -> Result<(), AllocError>
+fn run_beside<F: Bench + Drop>(
+    heap: Global,
+    mut first: F,
+    second: Option<Single>,
+    text: &[u8],
+    passed: u64,
+    out: &mut Vec<u8>,
+) -> Result<(), AllocError>
     requires { ⌜ passed + length (now text) < 2 ^ 64 ⌝ }
     ensures { λ r. ⌜ made r (λ _. Wrote (beside (told registers lanes left shows first) second) (passed + 1) (linesIn (now (text .entry))) (vec-items (now (out .entry))) (vec-items (now (out .exit)))) ⌝ }
 {
     match second {
         None => run(heap, &mut first, text, passed, out),
-        Some(Single::Word { registers, allotment }) => {
+        Some(
+            Single::Word {
+                registers,
+                allotment,
+            },
+        ) => {
             let Ok(mut words) = vec![in heap; 0u64; registers] else {
                 return push_no_memory(out);
             };
             let second = WordBench::new(words.as_mut_slice(), allotment);
             run(heap, &mut SideBySide { first, second }, text, passed, out)
         }
-        Some(Single::Row { width, bytes, allotment }) => {
+        Some(
+            Single::Row {
+                width,
+                bytes,
+                allotment,
+            },
+        ) => {
             let Ok(mut rows) = vec![in heap; 0u8; bytes] else {
                 return push_no_memory(out);
             };
@@ -100,19 +137,32 @@ fn run_beside<F: Bench + Drop>(heap: Global, mut first: F, second: Option<Single
 }
 
 // Answers the text on the bench of the setup, over memory of zeros.
-fn run_setup(heap: Global, setup: Setup, text: &[u8], passed: u64, out: &mut Vec<u8>) -> Result<(), AllocError>
+fn run_setup(
+    heap: Global,
+    setup: Setup,
+    text: &[u8],
+    passed: u64,
+    out: &mut Vec<u8>,
+) -> Result<(), AllocError>
     requires { ⌜ passed + length (now text) < 2 ^ 64 ⌝ }
     ensures { λ r. ⌜ made r (λ _. Wrote (opens setup) (passed + 1) (linesIn (now (text .entry))) (vec-items (now (out .entry))) (vec-items (now (out .exit)))) ⌝ }
 {
     match setup.first {
-        Single::Word { registers, allotment } => {
+        Single::Word {
+            registers,
+            allotment,
+        } => {
             let Ok(mut words) = vec![in heap; 0u64; registers] else {
                 return push_no_memory(out);
             };
             let first = WordBench::new(words.as_mut_slice(), allotment);
             run_beside(heap, first, setup.second, text, passed, out)
         }
-        Single::Row { width, bytes, allotment } => {
+        Single::Row {
+            width,
+            bytes,
+            allotment,
+        } => {
             let Ok(mut rows) = vec![in heap; 0u8; bytes] else {
                 return push_no_memory(out);
             };

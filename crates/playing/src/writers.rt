@@ -58,7 +58,15 @@ fn push_reply(out: &mut Vec<u8>, answer: Answer) -> Result<(), AllocError>
         Answer::Lanes(n) => push_counts(out, b"lanes", &[n as u64]),
         Answer::Left(n) => push_counts(out, b"left", &[n as u64]),
         Answer::Bit(bit) => push_counts(out, b"bit", &[bit as u64]),
-        Answer::Page { gates, sockets, scratch } => push_counts(out, b"page", &[gates as u64, sockets as u64, scratch as u64]),
+        Answer::Page {
+            gates,
+            sockets,
+            scratch,
+        } => push_counts(
+            out,
+            b"page",
+            &[gates as u64, sockets as u64, scratch as u64],
+        ),
         Answer::Refused(fault) => push_refusal(out, fault),
         Answer::Unreadable(line) => push_counts(out, b"unreadable", &[line]),
     }

@@ -38,15 +38,15 @@ on-word : (b : ℕ) (bs : List ℕ) → onWord b bs (wordsIn bs) ≡ (b ∷ take
 on-word b [] = refl
 on-word b (c ∷ cs) =
     elim (cases-bool (eqb c 32)) [
-      inl e ↦
-        let none : before 32 (c ∷ cs) ≡ 0 = rw e in
-        let here : onWord b (c ∷ cs) (wordsIn (c ∷ cs)) ≡ (b ∷ []) ∷ wordsIn (c ∷ cs) = ap (λ t. cond t ((b ∷ []) ∷ wordsIn (c ∷ cs)) (onFirst b (wordsIn (c ∷ cs)))) e in
-        here ∙ sym (ap (λ k. (b ∷ take k (c ∷ cs)) ∷ wordsIn (drop k (c ∷ cs))) none)
-    | inr e ↦
-        let here : onWord b (c ∷ cs) (wordsIn (c ∷ cs)) ≡ onFirst b (wordsIn (c ∷ cs)) = ap (λ t. cond t ((b ∷ []) ∷ wordsIn (c ∷ cs)) (onFirst b (wordsIn (c ∷ cs)))) e in
-        let next : wordsIn (c ∷ cs) ≡ onWord c cs (wordsIn cs) = rw e in
-        here ∙ ap (onFirst b) (next ∙ on-word c cs)
-        ∙ sym (ap (λ k. (b ∷ take k (c ∷ cs)) ∷ wordsIn (drop k (c ∷ cs))) (word-long c cs e))
+      | inl e ↦
+          let none : before 32 (c ∷ cs) ≡ 0 = rw e in
+          let here : onWord b (c ∷ cs) (wordsIn (c ∷ cs)) ≡ (b ∷ []) ∷ wordsIn (c ∷ cs) = ap (λ t. cond t ((b ∷ []) ∷ wordsIn (c ∷ cs)) (onFirst b (wordsIn (c ∷ cs)))) e in
+          here ∙ sym (ap (λ k. (b ∷ take k (c ∷ cs)) ∷ wordsIn (drop k (c ∷ cs))) none)
+      | inr e ↦
+          let here : onWord b (c ∷ cs) (wordsIn (c ∷ cs)) ≡ onFirst b (wordsIn (c ∷ cs)) = ap (λ t. cond t ((b ∷ []) ∷ wordsIn (c ∷ cs)) (onFirst b (wordsIn (c ∷ cs)))) e in
+          let next : wordsIn (c ∷ cs) ≡ onWord c cs (wordsIn cs) = rw e in
+          here ∙ ap (onFirst b) (next ∙ on-word c cs)
+          ∙ sym (ap (λ k. (b ∷ take k (c ∷ cs)) ∷ wordsIn (drop k (c ∷ cs))) (word-long c cs e))
     ]
 
 -- no word, or one word and then the others
@@ -54,18 +54,18 @@ pub word-off : (line : List ℕ) → ((wordOf line ≡ []) × (wordsIn line ≡ 
 word-off [] = inl (refl, refl, refl)
 word-off (b ∷ bs) =
     elim (cases-bool (eqb b 32)) [
-      inl e ↦
-        let same = from-space b bs e in
-        let word : wordOf (b ∷ bs) ≡ wordOf bs = ap (λ l. take (before 32 l) l) same in
-        let rest : afterWord (b ∷ bs) ≡ afterWord bs = ap (λ l. drop (before 32 l) l) same in
-        let words : wordsIn (b ∷ bs) ≡ wordsIn bs = rw e in
-        ⊎-elim
+      | inl e ↦
+          let same = from-space b bs e in
+          let word : wordOf (b ∷ bs) ≡ wordOf bs = ap (λ l. take (before 32 l) l) same in
+          let rest : afterWord (b ∷ bs) ≡ afterWord bs = ap (λ l. drop (before 32 l) l) same in
+          let words : wordsIn (b ∷ bs) ≡ wordsIn bs = rw e in
+          ⊎-elim
           (λ h. inl (word ∙ h .0, words ∙ h .1, rest ∙ h .2))
           (λ h. inr (omega (arith, ap length word, h .0), words ∙ h .1 ∙ sym (ap₂ (λ w r. w ∷ wordsIn r) word rest)))
           (word-off bs)
-    | inr e ↦
-        let words : wordsIn (b ∷ bs) ≡ onWord b bs (wordsIn bs) = rw e in
-        inr (omega (arith, ap length (word-other b bs e)), words ∙ on-word b bs ∙ sym (ap₂ (λ w r. w ∷ wordsIn r) (word-other b bs e) (after-other b bs e)))
+      | inr e ↦
+          let words : wordsIn (b ∷ bs) ≡ onWord b bs (wordsIn bs) = rw e in
+          inr (omega (arith, ap length (word-other b bs e)), words ∙ on-word b bs ∙ sym (ap₂ (λ w r. w ∷ wordsIn r) (word-other b bs e) (after-other b bs e)))
     ]
 
 pub first-word : (line : List ℕ) → wordOf line ≡ getD (wordsIn line) 0 []

@@ -28,23 +28,25 @@ returns-then-not-is-silent c =
     let some : 0 < length text = omega (arith, eqb-false (length text) 0 (sym (c .loop-rest-test .ensures tt))) in
     let loud : silent line ≡ false = sym (c .if-not-is-silent .ensures tt) in
     let opens-at : (room : Bool) → opened room n (benchIn line) (linesIn rest) ≡ scriptText room (c .args .script .now) =
-      λ room. line-opens room n text line rest some (c .split-line .ensures .line) (c .split-line .ensures .rest) loud ∙ inv .2 room in
+    λ room. line-opens room n text line rest some (c .split-line .ensures .line) (c .split-line .ensures .rest) loud ∙ inv .2 room in
     elim (c .match-read-bench .came) [
-      in-Some·in-Continue-run-setup w ↦
-        let wrote = w .in-Continue-run-setup .ensures tt in
-        (wrote .room,
-          ap vec-items (w .out-is)
-          ∙ wrote .text
-          ∙ ap (λ l. l ++ outcome (wrote .room) (opens (w .in-Some .setup)) (n + 1) (linesIn rest)) (inv .1)
-          ∙ ap (λ o. opened (wrote .room) n o (linesIn rest)) (w .in-Some .ensures tt)
-          ∙ opens-at (wrote .room))
-    | in-None·in-Continue-push-answer w ↦
-        (true,
-          ap vec-items (w .out-is)
-          ∙ w .in-Continue-push-answer .ensures tt
-          ∙ ap (λ l. l ++ answerLine (Unreadable n)) (inv .1)
-          ∙ ap (λ o. opened true n o (linesIn rest)) (w .in-None .ensures tt)
-          ∙ opens-at true)
+      | in-Some·in-Continue-run-setup w ↦
+          let wrote = w .in-Continue-run-setup .ensures tt in (
+            wrote .room,
+            ap vec-items (w .out-is)
+                ∙ wrote .text
+                ∙ ap (λ l. l ++ outcome (wrote .room) (opens (w .in-Some .setup)) (n + 1) (linesIn rest)) (inv .1)
+                ∙ ap (λ o. opened (wrote .room) n o (linesIn rest)) (w .in-Some .ensures tt)
+                ∙ opens-at (wrote .room),
+          )
+      | in-None·in-Continue-push-answer w ↦ (
+        true,
+        ap vec-items (w .out-is)
+            ∙ w .in-Continue-push-answer .ensures tt
+            ∙ ap (λ l. l ++ answerLine (Unreadable n)) (inv .1)
+            ∙ ap (λ o. opened true n o (linesIn rest)) (w .in-None .ensures tt)
+            ∙ opens-at true,
+      )
     ]
 
 pub loop-rest-less : need.loop-rest-less
@@ -60,10 +62,11 @@ loop-rest-again c =
     let some : 0 < length text = omega (arith, eqb-false (length text) 0 (sym (c .loop-rest-test .ensures tt))) in
     let shorter = after-shorter text some in
     let inv = c .loop-rest .inv in
-    let quiet : silent (c .split-line .result .0 .now) ≡ true = sym (c .if-not-is-silent .ensures tt) in
-    (omega (arith, inv .0, ap length (c .split-line .ensures .rest)),
+    let quiet : silent (c .split-line .result .0 .now) ≡ true = sym (c .if-not-is-silent .ensures tt) in (
+      omega (arith, inv .0, ap length (c .split-line .ensures .rest)),
       inv .1,
-      λ room. line-passed room (n + 1) text (c .split-line .result .0 .now) (c .split-line .result .1 .now) some (c .split-line .ensures .line) (c .split-line .ensures .rest) quiet ∙ inv .2 room)
+      λ room. line-passed room (n + 1) text (c .split-line .result .0 .now) (c .split-line .result .1 .now) some (c .split-line .ensures .line) (c .split-line .ensures .rest) quiet ∙ inv .2 room,
+    )
 
 pub returns : need.returns
 returns c =

@@ -24,12 +24,13 @@ loop-rest-again g c =
     let text = c .loop-rest .rest .now in
     let m = told (g .B·Bench .registers) (g .B·Bench .lanes) (g .B·Bench .left) (g .B·Bench .shows) in
     let some : 0 < length text = omega (arith, eqb-false (length text) 0 (sym (c .loop-rest-test .ensures tt))) in
-    let inv = c .loop-rest .inv in
-    (omega (arith, inv .0, after-shorter text some, ap length (c .split-line .ensures .rest)),
+    let inv = c .loop-rest .inv in (
+      omega (arith, inv .0, after-shorter text some, ap length (c .split-line .ensures .rest)),
       line-done (m (c .loop-rest .bench)) (m (c .answer-line .last .bench)) (vec-items (c .loop-rest .page)) (vec-items (c .answer-line .last .kept)) (c .loop-rest .number + 1)
-        text (c .split-line .result .0 .now) (c .split-line .result .1 .now) (vec-items (c .loop-rest .out)) (vec-items (c .answer-line .last .out))
-        some (c .split-line .ensures .line) (c .split-line .ensures .rest) (c .in-Continue-answer-line .ensures tt)
-      ∙ inv .1)
+          text (c .split-line .result .0 .now) (c .split-line .result .1 .now) (vec-items (c .loop-rest .out)) (vec-items (c .answer-line .last .out))
+          some (c .split-line .ensures .line) (c .split-line .ensures .rest) (c .in-Continue-answer-line .ensures tt)
+          ∙ inv .1,
+    )
 
 pub returns : need.returns
 returns g c =

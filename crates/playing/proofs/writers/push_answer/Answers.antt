@@ -7,4 +7,4 @@ use Rattle.playing.proofs.writers.push_answer.Needs as need
 pub returns : need.returns
 returns c =
     last-pushed (c .push-text .result) (vec-items (c .args .out .now)) (vec-items (c .push-reply .last .out)) (vec-items (c .push-text .last .out))
-      (answerText (c .args .answer)) (10 ∷ []) (c .in-Continue-push-reply .ensures tt) (c .push-text .ensures)
+    (answerText (c .args .answer)) (10 ∷ []) (c .in-Continue-push-reply .ensures tt) (c .push-text .ensures)

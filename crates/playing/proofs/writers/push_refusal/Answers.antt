@@ -12,8 +12,8 @@ returns c =
     let f = c .args .fault in
     let start = vec-items (c .args .out .now) in
     refusal-pushed (c .push-spaced .result) start (vec-items (c .push-counts .last .out)) (vec-items (c .push-text .last .out)) (vec-items (c .push-part .last .out)) (vec-items (c .push-spaced .last .out))
-      (codes "refused") (spaced (numberOf (f .question) ∷ [])) (partName (f .part)) (spaced (f .place ∷ []))
-      (c .in-Continue-push-counts .ensures tt ∙ ap (λ n. start ++ (codes "refused" ++ spaced (n ∷ []))) (c .number .ensures))
-      (c .in-Continue-push-text .ensures tt)
-      (c .in-Continue-push-part .ensures tt)
-      (c .push-spaced .ensures)
+    (codes "refused") (spaced (numberOf (f .question) ∷ [])) (partName (f .part)) (spaced (f .place ∷ []))
+    (c .in-Continue-push-counts .ensures tt ∙ ap (λ n. start ++ (codes "refused" ++ spaced (n ∷ []))) (c .number .ensures))
+    (c .in-Continue-push-text .ensures tt)
+    (c .in-Continue-push-part .ensures tt)
+    (c .push-spaced .ensures)

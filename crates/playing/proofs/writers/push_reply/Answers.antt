@@ -9,4 +9,4 @@ use Rattle.playing.proofs.writers.push_reply.Needs as need
 pub returns-in-Unreadable : need.returns-in-Unreadable
 returns-in-Unreadable c =
     subst (λ (a : Answer). made (c .push-counts-in-Unreadable .result) (λ _. vec-items (c .push-counts-in-Unreadable .last .out) ≡ vec-items (c .args .out .now) ++ answerText a))
-      (sym (c .in-Unreadable .is)) (c .push-counts-in-Unreadable .ensures)
+    (sym (c .in-Unreadable .is)) (c .push-counts-in-Unreadable .ensures)
