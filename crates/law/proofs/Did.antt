@@ -5,7 +5,7 @@ use Rattle.std.specs.declared.option.Option.{Option}
 use Rattle.std.specs.declared.option.Option.the-variants.{Some, None}
 use Rattle.bench.specs.declared.faults.Fault.{Fault}
 use Rattle.bench.specs.declared.benches.Bench.{Ghosts}
-use Rattle.unit.specs.declared.records.LaneRecord.{LaneRecord}
+use Rattle.lanetable.specs.declared.records.LaneRecord.{LaneRecord}
 use Rattle.unit.specs.declared.unit.CipherUnit.{CipherUnit}
 use Rattle.unit.specs.View.{View, shape}
 use Rattle.unit.specs.Held.{view}

@@ -20,10 +20,10 @@ use Rattle.lane.specs.Spans.{shownAt, laid, bitsOf, zeroed}
 use Rattle.lane.proofs.Shown.{laid-other, laid-outside, laid-shown}
 use Rattle.plans.specs.Plans.{schedulePlan, sealPlan, openPlan}
 use Rattle.plans.specs.Pages.{ownInverter}
-use Rattle.unit.specs.declared.records.KeyState.{KeyState}
-use Rattle.unit.specs.declared.records.KeyState.the-variants.{Absent, Placed, Scheduled}
-use Rattle.unit.specs.declared.records.LaneRecord.{LaneRecord}
-use Rattle.unit.specs.Records.{empty, promoted, promotes, isScheduled, unready, lowestUnready, lowestFrom}
+use Rattle.lanetable.specs.declared.records.KeyState.{KeyState}
+use Rattle.lanetable.specs.declared.records.KeyState.the-variants.{Absent, Placed, Scheduled}
+use Rattle.lanetable.specs.declared.records.LaneRecord.{LaneRecord}
+use Rattle.lanetable.specs.Records.{empty, promoted, promotes, isScheduled, unready, lowestUnready, lowestFrom}
 use Rattle.unit.specs.Works.{kind, worked, K, S, O}
 use Rattle.unit.specs.View.{View, Shape, shape, made}
 use Rattle.unit.specs.Lanes.{stateOf, keyOf, roundShown}

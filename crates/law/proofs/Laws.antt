@@ -16,8 +16,8 @@ use Rattle.bench.specs.Model.{Model, Memory}
 use Rattle.lane.specs.Spans.{laid}
 use Rattle.plans.specs.Plans.{schedulePlan, sealPlan, openPlan}
 use Rattle.plans.specs.Pages.{ownInverter}
-use Rattle.unit.specs.declared.records.LaneRecord.{LaneRecord}
-use Rattle.unit.specs.Records.{empty, withKey, withBlock, promotes}
+use Rattle.lanetable.specs.declared.records.LaneRecord.{LaneRecord}
+use Rattle.lanetable.specs.Records.{empty, withKey, withBlock, promotes}
 use Rattle.plans.specs.declared.plays.Play.{Play}
 use Rattle.unit.specs.Works.{kind, worked, workedIn, gatesOfPlan, K, S, O}
 use Rattle.unit.specs.View.{Shape, View, shape, made}

@@ -16,9 +16,9 @@ use Rattle.std.specs.declared.result.Result.the-variants.{Ok, Err}
 use Rattle.standard.specs.Kinds.{keyBytes}
 use Rattle.bench.specs.declared.faults.Fault.{Fault}
 use Rattle.lane.specs.Spans.{shownAt}
-use Rattle.unit.specs.declared.records.LaneRecord.{LaneRecord}
+use Rattle.lanetable.specs.declared.records.LaneRecord.{LaneRecord}
 use Rattle.unit.specs.declared.unit.Counts.{Counts as Three}
-use Rattle.unit.specs.Records.{empty, lowestUnready}
+use Rattle.lanetable.specs.Records.{empty, lowestUnready}
 use Rattle.unit.specs.Works.{kind, K, S, O}
 use Rattle.unit.specs.View.{Shape, View, shape, keyPlaced, blockPlaced, cleared, scheduled, sealed, opened}
 use Rattle.unit.specs.Answers.{placing, naming, reading, scheduling, working, settled}

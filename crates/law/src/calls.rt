@@ -1,6 +1,6 @@
 // Calls and questions in a list, each with its answer.
 use bench::faults::Fault;
-use unit::records::LaneRecord;
+use lanetable::records::LaneRecord;
 use unit::unit::Counts;
 
 // One call or question, with the bytes that it brings or the buffer that it is to fill.

@@ -10,7 +10,7 @@ use crate::calls::Call;
 use crate::calls::Entry;
 use bench::benches::Bench;
 use bench::faults::Fault;
-use unit::records::LaneRecord;
+use lanetable::records::LaneRecord;
 use unit::unit::CipherUnit;
 
 fn done_or(r: Result<(), Fault>) -> Answer

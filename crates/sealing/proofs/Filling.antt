@@ -18,9 +18,9 @@ use Rattle.lane.specs.Spans.{laid}
 use Rattle.plans.specs.Pages.{ownInverter}
 use Rattle.plans.specs.Plans.{schedulePlan, sealPlan}
 use Rattle.plans.proofs.Counts.{schedule-count, seal-count}
-use Rattle.unit.specs.declared.records.KeyState.the-variants.{Placed}
-use Rattle.unit.specs.declared.records.LaneRecord.{LaneRecord}
-use Rattle.unit.specs.Records.{empty, withKey, withBlock, promotes, anyPlaced, anyBlock, lowestFrom, lowestUnready}
+use Rattle.lanetable.specs.declared.records.KeyState.the-variants.{Placed}
+use Rattle.lanetable.specs.declared.records.LaneRecord.{LaneRecord}
+use Rattle.lanetable.specs.Records.{empty, withKey, withBlock, promotes, anyPlaced, anyBlock, lowestFrom, lowestUnready}
 use Rattle.unit.specs.Works.{kind, worked, K, S}
 use Rattle.unit.specs.View.{View, Shape, shape, made}
 use Rattle.unit.specs.Lanes.{stateOf}

@@ -1,4 +1,3 @@
-pub mod Scans
 pub mod Settled
 pub mod Bytes
 pub mod Planned

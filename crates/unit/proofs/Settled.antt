@@ -13,7 +13,7 @@ use Rattle.std.proofs.shelf.Tests.{leb-true, ltb-true, eqb-true, and-parts, le-
 use Rattle.bench.specs.declared.faults.Fault.{Fault}
 use Rattle.bench.specs.Model.{Model}
 use Rattle.lane.specs.Spans.{spanAnswer}
-use Rattle.unit.specs.Records.{empty, anyPlaced, anyBlock, lowestUnready}
+use Rattle.lanetable.specs.Records.{empty, anyPlaced, anyBlock, lowestUnready}
 use Rattle.unit.specs.View.{Shape}
 use Rattle.unit.specs.Works.{kind, K}
 use Rattle.unit.specs.Answers.{ask, fits, enough, everyKey, naming, placing, reading, scheduling, working, given, settled}

@@ -19,7 +19,7 @@ use Rattle.bench.specs.declared.faults.Part.the-variants.{Unit as UnitPart}
 use Rattle.bench.specs.declared.faults.Fault.{Fault}
 use Rattle.bench.specs.Faults.{fault}
 use Rattle.plans.specs.Layout.{room}
-use Rattle.unit.specs.Records.{empty, anyPlaced, anyBlock, lowestUnready}
+use Rattle.lanetable.specs.Records.{empty, anyPlaced, anyBlock, lowestUnready}
 use Rattle.unit.specs.View.{Shape}
 use Rattle.unit.specs.Works.{kind, K}
 

@@ -1,4 +1,3 @@
-pub mod Records
 pub mod Works
 pub mod View
 pub mod Held

@@ -11,8 +11,8 @@ use Rattle.lane.specs.Spans.{laid, laidIn, bitsOf, zeroed, zeroedIn}
 use Rattle.plans.specs.declared.plays.Play.{Play}
 use Rattle.plans.specs.Plans.{schedulePlan, sealPlan, openPlan}
 use Rattle.plans.specs.Layout.{free}
-use Rattle.unit.specs.declared.records.LaneRecord.{LaneRecord}
-use Rattle.unit.specs.Records.{empty, withKey, withBlock, promotes}
+use Rattle.lanetable.specs.declared.records.LaneRecord.{LaneRecord}
+use Rattle.lanetable.specs.Records.{empty, withKey, withBlock, promotes}
 use Rattle.unit.specs.Works.{kind, worked, workedIn}
 
 pub record View : Type 0 where

@@ -5,7 +5,7 @@ use lib.ListN.{length, set}
 use Prim.Native.Nat.{_*_}
 use Rattle.std.specs.declared.result.Result.the-variants.{Ok}
 use Rattle.lane.proofs.Laying.{never}
-use Rattle.unit.specs.Records.{withKey}
+use Rattle.lanetable.specs.Records.{withKey}
 use Rattle.unit.specs.View.{keyPlaced}
 use Rattle.unit.specs.Held.{meaning, view, shapeOf}
 use Rattle.unit.specs.Answers.{placing}

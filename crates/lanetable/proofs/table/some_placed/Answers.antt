@@ -1,7 +1,7 @@
 use mathlib.Core.Path.{refl, sym}
-use Rattle.unit.specs.Records.{anyPlaced, isPlaced}
-use Rattle.unit.proofs.Scans.{any-found, any-next, any-end}
-use Rattle.unit.proofs.table.some_placed.Needs as need
+use Rattle.lanetable.specs.Records.{anyPlaced, isPlaced}
+use Rattle.lanetable.proofs.Scans.{any-found, any-next, any-end}
+use Rattle.lanetable.proofs.table.some_placed.Needs as need
 
 pub returns-then-is-placed : need.returns-then-is-placed
 returns-then-is-placed c =

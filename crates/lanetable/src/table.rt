@@ -3,7 +3,7 @@ ghost use mathlib.Core.Path.{_≡_};
 ghost use mathlib.Core.List.{map};
 ghost use Prim.Native.Nat.{ℕ, _<_};
 ghost use lib.ListN.{getD, set, replicate};
-ghost use Rattle.unit.specs.Records.{empty, withKey, withBlock, promoted, promotes, isPlaced, isScheduled, anyPlaced, anyBlock, lowestUnready};
+ghost use Rattle.lanetable.specs.Records.{empty, withKey, withBlock, promoted, promotes, isPlaced, isScheduled, anyPlaced, anyBlock, lowestUnready};
 use crate::records::KeyState;
 use crate::records::LaneRecord;
 

@@ -8,12 +8,12 @@ use lib.ListN.{length, getD, set, take, drop}
 use Rattle.std.proofs.shelf.Lists.{at-drop-more, at-drop-all, take-more, take-all, drop-all, drop-more, append-nil, append-assoc, map-push, set-append-right, length-map, length-take-le, getD-append-right, set-getD}
 use Rattle.std.specs.declared.option.Option.{Option}
 use Rattle.std.specs.declared.option.Option.the-variants.{Some, None}
-use Rattle.unit.specs.declared.records.LaneRecord.{LaneRecord}
-use Rattle.unit.specs.declared.records.KeyState.{KeyState}
-use Rattle.unit.specs.declared.records.KeyState.the-variants.{Absent, Placed, Scheduled}
+use Rattle.lanetable.specs.declared.records.LaneRecord.{LaneRecord}
+use Rattle.lanetable.specs.declared.records.KeyState.{KeyState}
+use Rattle.lanetable.specs.declared.records.KeyState.the-variants.{Absent, Placed, Scheduled}
 use Rattle.std.proofs.shelf.Tests.{true≢false, false≢true}
-use Rattle.unit.specs.Records.{empty, promotes, promoted}
-use Rattle.unit.specs.Records.{anyPlaced, anyBlock, isPlaced, lowestUnready, lowestFrom, unready}
+use Rattle.lanetable.specs.Records.{empty, promotes, promoted}
+use Rattle.lanetable.specs.Records.{anyPlaced, anyBlock, isPlaced, lowestUnready, lowestFrom, unready}
 
 or-true : (p q : Bool) → p ≡ true → true ≡ (p || q)
 or-true p q e = ap (λ x. true) e ∙ sym (ap (λ x. x || q) e)

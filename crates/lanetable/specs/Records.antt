@@ -8,9 +8,9 @@ use mathlib.Core.Bool.{Bool, true, false, cond, not, _&&_, _||_}
 use mathlib.Core.List.{List, [], _∷_}
 use Rattle.std.specs.declared.option.Option.{Option}
 use Rattle.std.specs.declared.option.Option.the-variants.{Some, None}
-use Rattle.unit.specs.declared.records.KeyState.{KeyState}
-use Rattle.unit.specs.declared.records.KeyState.the-variants.{Absent, Placed, Scheduled}
-use Rattle.unit.specs.declared.records.LaneRecord.{LaneRecord}
+use Rattle.lanetable.specs.declared.records.KeyState.{KeyState}
+use Rattle.lanetable.specs.declared.records.KeyState.the-variants.{Absent, Placed, Scheduled}
+use Rattle.lanetable.specs.declared.records.LaneRecord.{LaneRecord}
 
 abbrev pub empty : LaneRecord
 empty = record { key = Absent; block = false }

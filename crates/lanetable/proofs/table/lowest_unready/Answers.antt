@@ -1,7 +1,7 @@
 use mathlib.Core.Path.{sym, _∙_}
-use Rattle.unit.proofs.Scans.{low-found, low-next, low-end, unready-if, ready-if, absent-if}
-use Rattle.unit.proofs.table.lowest_unready.Needs as need
-use Rattle.unit.proofs.table.lowest_unready.Needs.{else-r·by·then-r·else-not-is-scheduled, else-r·by·else-r}
+use Rattle.lanetable.proofs.Scans.{low-found, low-next, low-end, unready-if, ready-if, absent-if}
+use Rattle.lanetable.proofs.table.lowest_unready.Needs as need
+use Rattle.lanetable.proofs.table.lowest_unready.Needs.{else-r·by·then-r·else-not-is-scheduled, else-r·by·else-r}
 
 pub returns-then-not-is-scheduled : need.returns-then-not-is-scheduled
 returns-then-not-is-scheduled c =

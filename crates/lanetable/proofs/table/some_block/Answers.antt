@@ -1,7 +1,7 @@
 use mathlib.Core.Path.{refl}
-use Rattle.unit.specs.Records.{anyBlock}
-use Rattle.unit.proofs.Scans.{any-found, any-next, any-end}
-use Rattle.unit.proofs.table.some_block.Needs as need
+use Rattle.lanetable.specs.Records.{anyBlock}
+use Rattle.lanetable.proofs.Scans.{any-found, any-next, any-end}
+use Rattle.lanetable.proofs.table.some_block.Needs as need
 
 pub returns-then-r : need.returns-then-r
 returns-then-r c =

@@ -1,6 +1,6 @@
-use Rattle.unit.specs.Records.{promotes}
-use Rattle.unit.proofs.Scans.{half-here, half-next, half-end, promote-one}
-use Rattle.unit.proofs.table.promote.Needs as need
+use Rattle.lanetable.specs.Records.{promotes}
+use Rattle.lanetable.proofs.Scans.{half-here, half-next, half-end, promote-one}
+use Rattle.lanetable.proofs.table.promote.Needs as need
 
 pub loop-r-again : need.loop-r-again
 loop-r-again c =
