@@ -1,0 +1,65 @@
+-- What is written for a whole script. Assumes nothing.
+--
+--   unitOn s           the unit over the bench that s writes, over memory of zeros
+--   answersText ts xs  what is written for the turns ts, of which those of calls have the answers xs
+--   partText           what is written for the lines after a bench line
+--   consoleText t      what is written for the script t
+use Prim.Native.Nat.{ℕ}
+use mathlib.Core.Bool.{Bool, true, false, cond}
+use mathlib.Core.List.{List, [], _∷_, _++_}
+use lib.Chars.{codes}
+use Rattle.std.specs.declared.option.Option.{Option}
+use Rattle.std.specs.declared.option.Option.the-variants.{Some, None}
+use Rattle.text.specs.Text.{linesIn}
+use Rattle.bench.specs.Model.{Model, part}
+use Rattle.playing.specs.declared.answers.Answer.the-variants.{Unreadable}
+use Rattle.playing.specs.declared.setups.Setup.{Setup}
+use Rattle.playing.specs.Answers.{answerLine}
+use Rattle.playing.specs.Setups.{opens}
+use Rattle.unit.specs.View.{View, made}
+use Rattle.law.specs.Calls.{Asked, Line, log}
+use Rattle.consoling.specs.declared.turns.Turn.{Turn}
+use Rattle.consoling.specs.declared.turns.Turn.the-variants as turn
+use Rattle.consoling.specs.declared.turns.Found.{Found}
+use Rattle.consoling.specs.declared.turns.Found.the-variants as found
+use Rattle.consoling.specs.Answers.{answerText}
+use Rattle.consoling.specs.Scripts.{turnsIn, callsIn, partedIn, beyond, numberBeyond, foundIn, pastBench, numberPast}
+
+-- the unit over a bench of the meaning m; no answer hangs on where the memory of the bench lies, here one part at 0
+abbrev pub unitOver : Model → View
+unitOver m = made m (part 0 [] m)
+
+abbrev pub unitOn : Setup → View
+unitOn s = unitOver (opens s)
+
+abbrev pub answersText : List Turn → List Line → List ℕ
+answersText [] xs = []
+answersText (turn.Unreadable n ∷ ts) xs = answerLine (Unreadable n) ++ answersText ts xs
+answersText (turn.Call ∷ ts) [] = answersText ts []
+answersText (turn.Call ∷ ts) (x ∷ xs) = answerText x ++ answersText ts xs
+
+-- the lines ls after a bench line, of which the first is line n
+abbrev pub partText : Bool → Setup → ℕ → List (List ℕ) → List ℕ
+partText stop s n ls = answersText (turnsIn stop n ls) (log (unitOn s) (callsIn stop ls))
+
+-- the second script
+abbrev pub secondText : Found → ℕ → List (List ℕ) → List ℕ
+secondText found.Nothing n ls = []
+secondText (found.Unreadable k) n ls = answerLine (Unreadable k)
+secondText (found.Bench s) n ls = partText false s n ls
+
+-- what follows the answers of the first script, where the lines ls after its bench line have a line `beside`
+abbrev pub besideText : ℕ → List (List ℕ) → List ℕ
+besideText n ls = (codes "beside" ++ (10 ∷ [])) ++ secondText (foundIn n ls) (numberPast n ls) (pastBench ls)
+
+-- the first script, of which the lines ls stand after the bench line
+abbrev pub bothText : Setup → ℕ → List (List ℕ) → List ℕ
+bothText s n ls = partText true s n ls ++ cond (partedIn true ls) (besideText (numberBeyond true n ls) (beyond true ls)) []
+
+abbrev pub openedText : Found → ℕ → List (List ℕ) → List ℕ
+openedText found.Nothing n ls = []
+openedText (found.Unreadable k) n ls = answerLine (Unreadable k)
+openedText (found.Bench s) n ls = bothText s n ls
+
+abbrev pub consoleText : List ℕ → List ℕ
+consoleText t = openedText (foundIn 1 (linesIn t)) (numberPast 1 (linesIn t)) (pastBench (linesIn t))
