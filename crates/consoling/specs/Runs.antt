@@ -4,7 +4,9 @@
 --   answersText ts xs  what is written for the turns ts, of which those of calls have the answers xs
 --   partText           what is written for the lines after a bench line
 --   consoleText t      what is written for the script t
+--   Ran, RanBoth       a list of calls performed on a unit, and two on a unit each: the answers, and the law over them
 use Prim.Native.Nat.{ℕ}
+use mathlib.Core.Path.{_≡_}
 use mathlib.Core.Bool.{Bool, true, false, cond}
 use mathlib.Core.List.{List, [], _∷_, _++_}
 use lib.Chars.{codes}
@@ -18,6 +20,7 @@ use Rattle.playing.specs.Answers.{answerLine}
 use Rattle.playing.specs.Setups.{opens}
 use Rattle.unit.specs.View.{View, made}
 use Rattle.law.specs.Calls.{Asked, Line, log}
+use Rattle.law.specs.Law.{Lawful, Isolated}
 use Rattle.consoling.specs.declared.turns.Turn.{Turn}
 use Rattle.consoling.specs.declared.turns.Turn.the-variants as turn
 use Rattle.consoling.specs.declared.turns.Found.{Found}
@@ -63,3 +66,19 @@ openedText (found.Bench s) n ls = bothText s n ls
 
 abbrev pub consoleText : List ℕ → List ℕ
 consoleText t = openedText (foundIn 1 (linesIn t)) (numberPast 1 (linesIn t)) (pastBench (linesIn t))
+
+-- the calls as on a unit over a bench of the meaning m, with their lines xs
+pub record Ran (m : Model) (as : List Asked) (xs : List Line) : Type 0 where
+  pub answers : xs ≡ log (unitOver m) as
+  pub law : (rest : ℕ) × Lawful (m .left) xs rest
+
+-- the calls as and bs, each on a unit of their own
+pub record RanBoth (p q : Model) (as bs : List Asked) (xs ys : List Line) : Type 0 where
+  pub one : Ran p as xs
+  pub two : Ran q bs ys
+  pub isolated : (rest other : ℕ) × Isolated p q as bs xs ys rest other
+
+-- on a unit over a bench of the meaning m, and beside it on one over another bench, if any
+abbrev pub RanOn : Model → Option Setup → List Asked → List Asked → List Line → List Line → Type 0
+RanOn m None as bs xs ys = Ran m as xs
+RanOn m (Some s) as bs xs ys = RanBoth m (opens s) as bs xs ys

@@ -62,17 +62,17 @@ pub(crate) fn read_body<'a>(heap: Global, text: &'a [u8], passed: u64, stop: boo
     let log = Vec::new(heap);
     let mut script = Script { turns, log };
     let mut rest = text;
-    let mut passed = passed;
+    let mut number = passed;
     while !rest.is_empty() {
         let (line, after) = split_line(rest);
         rest = after;
-        passed += 1;
+        number += 1;
         if stop && is_beside(line) {
-            return Ok(Body { script, parted: true, rest, passed });
+            return Ok(Body { script, parted: true, rest, passed: number });
         }
-        read_line(heap, line, passed, &mut script)?;
+        read_line(heap, line, number, &mut script)?;
     }
-    Ok(Body { script, parted: false, rest, passed })
+    Ok(Body { script, parted: false, rest, passed: number })
 }
 
 // Looks for the bench line of the text, before which `passed` lines stood.
@@ -82,18 +82,18 @@ pub(crate) fn find_bench(text: &[u8], passed: u64) -> Opening<'_>
     ensures bound { λ r. ⌜ r .passed + length (now (r .rest)) ≤ passed + length (now (text .entry)) ⌝ }
 {
     let mut rest = text;
-    let mut passed = passed;
+    let mut number = passed;
     while !rest.is_empty() {
         let (line, after) = split_line(rest);
         rest = after;
-        passed += 1;
+        number += 1;
         if !is_silent(line) {
             let found = match read_bench(line) {
                 Some(setup) => Found::Bench(setup),
-                None => Found::Unreadable(passed),
+                None => Found::Unreadable(number),
             };
-            return Opening { found, rest, passed };
+            return Opening { found, rest, passed: number };
         }
     }
-    Opening { found: Found::Nothing, rest, passed }
+    Opening { found: Found::Nothing, rest, passed: number }
 }
