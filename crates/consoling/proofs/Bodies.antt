@@ -17,44 +17,44 @@ use Rattle.consoling.specs.Scripts.{besides, turnsOf, callsOf, turnsIn, callsI
 pub lines-are : (text line rest : List ℕ) → 0 < length text → line ≡ lineOf text → rest ≡ afterLine text → linesIn text ≡ line ∷ linesIn rest
 lines-are text line rest some is after = line-off text some ∙ sym (ap₂ (λ (l r : List ℕ). l ∷ linesIn r) is after)
 
--- the turns ts and the calls as of the lines before line m, and the lines ms from there on
-pub record Left (stop : Bool) (n : ℕ) (ls : List (List ℕ)) (m : ℕ) (ms : List (List ℕ)) (ts : List Turn) (as : List Asked) : Type 0 where
+-- the turns ts and the calls cs of the lines before line m, and the lines ms from there on
+pub record Left (stop : Bool) (n : ℕ) (ls : List (List ℕ)) (m : ℕ) (ms : List (List ℕ)) (ts : List Turn) (cs : List Asked) : Type 0 where
   pub turns : ts ++ turnsIn stop m ms ≡ turnsIn stop n ls
-  pub calls : as ++ callsIn stop ms ≡ callsIn stop ls
+  pub calls : cs ++ callsIn stop ms ≡ callsIn stop ls
   pub ended : partedIn stop ms ≡ partedIn stop ls
   pub after : beyond stop ms ≡ beyond stop ls
   pub number : numberBeyond stop m ms ≡ numberBeyond stop n ls
 
-module _ (stop : Bool) (n : ℕ) (ls : List (List ℕ)) (m : ℕ) (ms : List (List ℕ)) (ts : List Turn) (as : List Asked) (left : Left stop n ls m ms ts as) where
-  pub left-none : ms ≡ [] → Parted stop n ls ts as false ms m
+module _ (stop : Bool) (n : ℕ) (ls : List (List ℕ)) (m : ℕ) (ms : List (List ℕ)) (ts : List Turn) (cs : List Asked) (left : Left stop n ls m ms ts cs) where
+  pub left-none : ms ≡ [] → Parted stop n ls ts cs false ms m
   left-none e = record {
     turns = sym (append-nil ts) ∙ sym (ap (λ (x : List (List ℕ)). ts ++ turnsIn stop m x) e) ∙ left .turns;
-    calls = sym (append-nil as) ∙ sym (ap (λ (x : List (List ℕ)). as ++ callsIn stop x) e) ∙ left .calls;
+    calls = sym (append-nil cs) ∙ sym (ap (λ (x : List (List ℕ)). cs ++ callsIn stop x) e) ∙ left .calls;
     ended = sym (ap (partedIn stop) e) ∙ left .ended;
     after = e ∙ sym (ap (beyond stop) e) ∙ left .after;
     number = sym (ap (numberBeyond stop m) e) ∙ left .number;
   }
 
   module _ (l : List ℕ) (more : List (List ℕ)) (is : ms ≡ l ∷ more) where
-    pub left-parted : (stop && besides l) ≡ true → Parted stop n ls ts as true more (m + 1)
+    pub left-parted : (stop && besides l) ≡ true → Parted stop n ls ts cs true more (m + 1)
     left-parted t = record {
       turns = sym (append-nil ts) ∙ sym (ap (λ (x : List Turn). ts ++ x) (ap (turnsIn stop m) is ∙ cond-true _ _ _ t)) ∙ left .turns;
-      calls = sym (append-nil as) ∙ sym (ap (λ (x : List Asked). as ++ x) (ap (callsIn stop) is ∙ cond-true _ _ _ t)) ∙ left .calls;
+      calls = sym (append-nil cs) ∙ sym (ap (λ (x : List Asked). cs ++ x) (ap (callsIn stop) is ∙ cond-true _ _ _ t)) ∙ left .calls;
       ended = sym (ap (partedIn stop) is ∙ cond-true _ _ _ t) ∙ left .ended;
       after = sym (ap (beyond stop) is ∙ cond-true _ _ _ t) ∙ left .after;
       number = sym (ap (numberBeyond stop m) is ∙ cond-true _ _ _ t) ∙ left .number;
     }
 
-    pub left-more : (ts′ : List Turn) (as′ : List Asked) → (stop && besides l) ≡ false → ts′ ≡ ts ++ turnsOf m l → as′ ≡ as ++ callsOf l → Left stop n ls (m + 1) more ts′ as′
-    left-more ts′ as′ t p q = record {
+    pub left-more : (ts′ : List Turn) (cs′ : List Asked) → (stop && besides l) ≡ false → ts′ ≡ ts ++ turnsOf m l → cs′ ≡ cs ++ callsOf l → Left stop n ls (m + 1) more ts′ cs′
+    left-more ts′ cs′ t p q = record {
       turns =
         ap (λ (x : List Turn). x ++ turnsIn stop (m + 1) more) p
         ∙ append-assoc ts (turnsOf m l) (turnsIn stop (m + 1) more)
         ∙ sym (ap (λ (x : List Turn). ts ++ x) (ap (turnsIn stop m) is ∙ cond-false _ _ _ t)) ∙ left .turns;
       calls =
         ap (λ (x : List Asked). x ++ callsIn stop more) q
-        ∙ append-assoc as (callsOf l) (callsIn stop more)
-        ∙ sym (ap (λ (x : List Asked). as ++ x) (ap (callsIn stop) is ∙ cond-false _ _ _ t)) ∙ left .calls;
+        ∙ append-assoc cs (callsOf l) (callsIn stop more)
+        ∙ sym (ap (λ (x : List Asked). cs ++ x) (ap (callsIn stop) is ∙ cond-false _ _ _ t)) ∙ left .calls;
       ended = sym (ap (partedIn stop) is ∙ cond-false _ _ _ t) ∙ left .ended;
       after = sym (ap (beyond stop) is ∙ cond-false _ _ _ t) ∙ left .after;
       number = sym (ap (numberBeyond stop m) is ∙ cond-false _ _ _ t) ∙ left .number;

@@ -1,3 +1,4 @@
 pub mod Calls
 pub mod Bodies
+pub mod Turning
 pub mod Units

@@ -55,9 +55,9 @@ performed-same : (v w : View) → Same v w → (a : Asked) → performed v a ≡
 unfolding at
 performed-same v w s a = ap (λ (u : View). performed u a) (at-is v w s)
 
-log-same : (v w : View) → Same v w → (as : List Asked) → log v as ≡ log w as
+log-same : (v w : View) → Same v w → (cs : List Asked) → log v cs ≡ log w cs
 log-same v w s [] = refl
-log-same v w s (a ∷ as) = ap₂ (λ (x : Line) (xs : List Line). x ∷ xs) (performed-same v w s a) (log-same (next v a) (next w a) (next-same v w s a) as)
+log-same v w s (a ∷ cs) = ap₂ (λ (x : Line) (xs : List Line). x ∷ xs) (performed-same v w s a) (log-same (next v a) (next w a) (next-same v w s a) cs)
 
-pub log-over : (m : Model) (x : Memory) (as : List Asked) → log (made m x) as ≡ log (unitOver m) as
-log-over m x as = log-same (made m x) (unitOver m) (record { model = refl; records = refl }) as
+pub log-over : (m : Model) (x : Memory) (cs : List Asked) → log (made m x) cs ≡ log (unitOver m) cs
+log-over m x cs = log-same (made m x) (unitOver m) (record { model = refl; records = refl }) cs

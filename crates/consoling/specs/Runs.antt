@@ -5,11 +5,12 @@
 --   partText           what is written for the lines after a bench line
 --   consoleText t      what is written for the script t
 --   Ran, RanBoth       a list of calls performed on a unit, and two on a unit each: the answers, and the law over them
-use Prim.Native.Nat.{ℕ}
+use Prim.Native.Nat.{ℕ, _≤_}
 use mathlib.Core.Path.{_≡_}
 use mathlib.Core.Bool.{Bool, true, false, cond}
 use mathlib.Core.List.{List, [], _∷_, _++_}
 use lib.Chars.{codes}
+use lib.ListN.{length, drop}
 use Rattle.std.specs.declared.option.Option.{Option}
 use Rattle.std.specs.declared.option.Option.the-variants.{Some, None}
 use Rattle.text.specs.Text.{linesIn}
@@ -19,7 +20,8 @@ use Rattle.playing.specs.declared.setups.Setup.{Setup}
 use Rattle.playing.specs.Answers.{answerLine}
 use Rattle.playing.specs.Setups.{opens}
 use Rattle.unit.specs.View.{View, made}
-use Rattle.law.specs.Calls.{Asked, Line, log}
+use Rattle.law.specs.declared.calls.Entry.{Entry}
+use Rattle.law.specs.Calls.{Asked, Line, lines, log}
 use Rattle.law.specs.Law.{Lawful, Isolated}
 use Rattle.consoling.specs.declared.turns.Turn.{Turn}
 use Rattle.consoling.specs.declared.turns.Turn.the-variants as turn
@@ -40,6 +42,11 @@ answersText [] xs = []
 answersText (turn.Unreadable n ∷ ts) xs = answerLine (Unreadable n) ++ answersText ts xs
 answersText (turn.Call ∷ ts) [] = answersText ts []
 answersText (turn.Call ∷ ts) (x ∷ xs) = answerText x ++ answersText ts xs
+
+-- one turn written, with the entries es, of which those before next were written before it and those before k then are
+pub record Turned (t : Turn) (es : List Entry) (next k : ℕ) (was now-is : List ℕ) : Type 0 where
+  pub within : k ≤ length es
+  pub text : (ts : List Turn) → now-is ++ answersText ts (lines (drop k es)) ≡ was ++ answersText (t ∷ ts) (lines (drop next es))
 
 -- the lines ls after a bench line, of which the first is line n
 abbrev pub partText : Bool → Setup → ℕ → List (List ℕ) → List ℕ
@@ -67,18 +74,18 @@ openedText (found.Bench s) n ls = bothText s n ls
 abbrev pub consoleText : List ℕ → List ℕ
 consoleText t = openedText (foundIn 1 (linesIn t)) (numberPast 1 (linesIn t)) (pastBench (linesIn t))
 
--- the calls as on a unit over a bench of the meaning m, with their lines xs
-pub record Ran (m : Model) (as : List Asked) (xs : List Line) : Type 0 where
-  pub answers : xs ≡ log (unitOver m) as
+-- the calls cs on a unit over a bench of the meaning m, with their lines xs
+pub record Ran (m : Model) (cs : List Asked) (xs : List Line) : Type 0 where
+  pub answers : xs ≡ log (unitOver m) cs
   pub law : (rest : ℕ) × Lawful (m .left) xs rest
 
--- the calls as and bs, each on a unit of their own
-pub record RanBoth (p q : Model) (as bs : List Asked) (xs ys : List Line) : Type 0 where
-  pub one : Ran p as xs
+-- the calls cs and bs, each on a unit of their own
+pub record RanBoth (p q : Model) (cs bs : List Asked) (xs ys : List Line) : Type 0 where
+  pub one : Ran p cs xs
   pub two : Ran q bs ys
-  pub isolated : (rest other : ℕ) × Isolated p q as bs xs ys rest other
+  pub isolated : (rest other : ℕ) × Isolated p q cs bs xs ys rest other
 
 -- on a unit over a bench of the meaning m, and beside it on one over another bench, if any
 abbrev pub RanOn : Model → Option Setup → List Asked → List Asked → List Line → List Line → Type 0
-RanOn m None as bs xs ys = Ran m as xs
-RanOn m (Some s) as bs xs ys = RanBoth m (opens s) as bs xs ys
+RanOn m None cs bs xs ys = Ran m cs xs
+RanOn m (Some s) cs bs xs ys = RanBoth m (opens s) cs bs xs ys

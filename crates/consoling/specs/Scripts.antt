@@ -87,10 +87,10 @@ abbrev pub numberPast : ℕ → List (List ℕ) → ℕ
 numberPast n [] = n
 numberPast n (l ∷ ls) = cond (silent l) (numberPast (n + 1) ls) (n + 1)
 
--- a script's lines read: the turns ts, the calls as, whether a line `beside` ended them, the lines that follow it and the number of the first of these
-pub record Parted (stop : Bool) (n : ℕ) (ls : List (List ℕ)) (ts : List Turn) (as : List Asked) (parted : Bool) (rest : List (List ℕ)) (k : ℕ) : Type 0 where
+-- a script's lines read: the turns ts, the calls cs, whether a line `beside` ended them, the lines that follow it and the number of the first of these
+pub record Parted (stop : Bool) (n : ℕ) (ls : List (List ℕ)) (ts : List Turn) (cs : List Asked) (parted : Bool) (rest : List (List ℕ)) (k : ℕ) : Type 0 where
   pub turns : ts ≡ turnsIn stop n ls
-  pub calls : as ≡ callsIn stop ls
+  pub calls : cs ≡ callsIn stop ls
   pub ended : parted ≡ partedIn stop ls
   pub after : rest ≡ beyond stop ls
   pub number : k ≡ numberBeyond stop n ls

@@ -1,5 +1,6 @@
 // Reading the lines of a script.
 ghost use mathlib.Core.Path.{_≡_};
+ghost use mathlib.Core.Bool.{_&&_};
 ghost use mathlib.Core.List.{_++_};
 ghost use Prim.Native.Nat.{_+_, _<_, _≤_, _^_};
 ghost use lib.ListN.{length};
@@ -31,6 +32,13 @@ fn is_beside(line: &[u8]) -> bool
     let (word, rest) = split_word(line);
     let (extra, _) = split_word(rest);
     is_word(word, b"beside") && extra.is_empty()
+}
+
+// Whether a line ends the script: with `stop`, one that begins a second.
+fn ends(stop: bool, line: &[u8]) -> bool
+    ensures { λ r. ⌜ r ≡ (stop && besides (now (line .entry))) ⌝ }
+{
+    stop && is_beside(line)
 }
 
 // Appends what a line gives to the script.
@@ -67,7 +75,7 @@ pub(crate) fn read_body<'a>(heap: Global, text: &'a [u8], passed: u64, stop: boo
         let (line, after) = split_line(rest);
         rest = after;
         number += 1;
-        if stop && is_beside(line) {
+        if ends(stop, line) {
             return Ok(Body { script, parted: true, rest, passed: number });
         }
         read_line(heap, line, number, &mut script)?;

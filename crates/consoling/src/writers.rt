@@ -1,11 +1,13 @@
 // Writing answers.
 ghost use mathlib.Core.Path.{_≡_};
 ghost use mathlib.Core.List.{_++_};
+ghost use Prim.Native.Nat.{_≤_};
+ghost use lib.ListN.{length};
 ghost use Rattle.std.specs.Of.Vec.{vec-items};
 ghost use Rattle.std.specs.Vec.{made};
 ghost use Rattle.law.specs.Calls.{asked, line, lines};
 ghost use Rattle.consoling.specs.Answers.{countsText, keyName, blockName, recordText, unreadyText, readingText, doneText, answerText};
-ghost use Rattle.consoling.specs.Runs.{answersText};
+ghost use Rattle.consoling.specs.Runs.{answersText, Turned};
 use crate::turns::Turn;
 use law::calls::Answer;
 use law::calls::Call;
@@ -64,12 +66,14 @@ fn push_record(out: &mut Vec<u8>, record: LaneRecord) -> Result<(), AllocError>
 fn push_unready(out: &mut Vec<u8>, lane: Option<usize>) -> Result<(), AllocError>
     ensures { λ r. ⌜ made r (λ _. vec-items (now (out .exit)) ≡ vec-items (now (out .entry)) ++ unreadyText lane) ⌝ }
 {
-    let Some(lane) = lane else {
-        return push_text(out, b"unready none\n");
-    };
-    push_text(out, b"unready ")?;
-    push_number(out, lane as u64)?;
-    push_text(out, b"\n")
+    match lane {
+        Some(lane) => {
+            push_text(out, b"unready ")?;
+            push_number(out, lane as u64)?;
+            push_text(out, b"\n")
+        }
+        None => push_text(out, b"unready none\n"),
+    }
 }
 
 fn push_reading(out: &mut Vec<u8>, bytes: &[u8]) -> Result<(), AllocError>
@@ -104,21 +108,33 @@ pub fn push_answer(out: &mut Vec<u8>, entry: &Entry) -> Result<(), AllocError>
     }
 }
 
+// Appends what one turn gives, with the answer of entry `next` where it is a call, and gives the entry after it.
+fn push_turn(out: &mut Vec<u8>, turn: Turn, log: &[Entry], next: usize) -> Result<usize, AllocError>
+    requires { ⌜ next ≤ length (now log) ⌝ }
+    ensures { λ r. ⌜ made r (λ k. Turned turn (now (log .entry)) next k (vec-items (now (out .entry))) (vec-items (now (out .exit)))) ⌝ }
+{
+    match turn {
+        Turn::Unreadable(number) => {
+            push_plain(out, Plain::Unreadable(number))?;
+            Ok(next)
+        }
+        Turn::Call => {
+            if next == log.len() {
+                return Ok(next);
+            }
+            push_answer(out, &log[next])?;
+            Ok(next + 1)
+        }
+    }
+}
+
 // Appends what the turns give, with the answers of the entries in order.
 pub fn push_answers(out: &mut Vec<u8>, turns: &[Turn], log: &[Entry]) -> Result<(), AllocError>
     ensures { λ r. ⌜ made r (λ _. vec-items (now (out .exit)) ≡ vec-items (now (out .entry)) ++ answersText (now (turns .entry)) (lines (now (log .entry)))) ⌝ }
 {
     let mut next = 0;
     for turn in turns {
-        match turn {
-            Turn::Unreadable(number) => push_plain(out, Plain::Unreadable(*number))?,
-            Turn::Call => {
-                if next < log.len() {
-                    push_answer(out, &log[next])?;
-                    next += 1;
-                }
-            }
-        }
+        next = push_turn(out, *turn, log, next)?;
     }
     Ok(())
 }

@@ -8,11 +8,11 @@ use Rattle.consoling.proofs.writers.push_unready.Needs as need
 
 pub returns : need.returns
 returns c =
-    let all = vec-items (c .push-text-2 .last .out) in
-    let r = c .push-text-2 .result in
+    let all = vec-items (c .push-text-3 .last .out) in
+    let r = c .push-text-3 .result in
     let start = vec-items (c .args .out .now) in
-    let a1 = vec-items (c .push-text .last .out) in
+    let a1 = vec-items (c .push-text-2 .last .out) in
     let a2 = vec-items (c .push-number .last .out) in
     last-pushed r start a1 all (codes "unready ") (decimal (c .in-Some .lane) ++ (10 ∷ [])) (c .in-Continue-push-text .ensures tt)
       (last-pushed r a1 a2 all (decimal (c .in-Some .lane)) (10 ∷ []) (c .in-Continue-push-number .ensures tt .appends)
-      (c .push-text-2 .ensures))
+      (c .push-text-3 .ensures))

@@ -1,0 +1,4 @@
+use Rattle.consoling.proofs.runs.answer_both.Needs as need
+
+pub returns : need.returns
+returns c = ?
