@@ -4,6 +4,7 @@ use mathlib.Core.Bool.{Bool, true, false, cond, _&&_}
 use mathlib.Core.List.{List, [], _∷_, _++_, append-assoc, append-nil}
 use Prim.Native.Nat.{ℕ, _+_, _<_}
 use lib.ListN.{length}
+use Rattle.std.specs.declared.option.Option.the-variants.{Some}
 use Rattle.std.proofs.shelf.Tests.{cond-true, cond-false}
 use Rattle.text.specs.Text.{lineOf, afterLine, linesIn}
 use Rattle.text.proofs.Lines.{line-off}
@@ -11,8 +12,10 @@ use Rattle.playing.specs.Commands.{silent}
 use Rattle.playing.specs.Setups.{benchIn}
 use Rattle.law.specs.Calls.{Asked}
 use Rattle.consoling.specs.declared.turns.Turn.{Turn}
+use Rattle.consoling.specs.declared.turns.Turn.the-variants as turn
 use Rattle.consoling.specs.declared.turns.Found.{Found}
-use Rattle.consoling.specs.Scripts.{besides, turnsOf, callsOf, turnsIn, callsIn, partedIn, beyond, numberBeyond, foundAt, foundIn, pastBench, numberPast, Parted, Opened}
+use Rattle.consoling.specs.Lines.{callIn}
+use Rattle.consoling.specs.Scripts.{besides, turnFor, callFor, turnsOf, callsOf, turnsIn, callsIn, partedIn, beyond, numberBeyond, foundAt, foundIn, pastBench, numberPast, Parted, Opened}
 
 pub lines-are : (text line rest : List ℕ) → 0 < length text → line ≡ lineOf text → rest ≡ afterLine text → linesIn text ≡ line ∷ linesIn rest
 lines-are text line rest some is after = line-off text some ∙ sym (ap₂ (λ (l r : List ℕ). l ∷ linesIn r) is after)
@@ -88,3 +91,11 @@ module _ (n : ℕ) (ls : List (List ℕ)) (m : ℕ) (ms : List (List ℕ)) (befo
       after = sym (ap pastBench is ∙ cond-false _ _ _ t) ∙ before .after;
       number = sym (ap (numberPast m) is ∙ cond-false _ _ _ t) ∙ before .number;
     }
+
+-- a line that writes the call a
+module _ (n : ℕ) (l : List ℕ) (a : Asked) (loud : silent l ≡ false) (call : callIn l ≡ Some a) where
+  pub turn-called : turnsOf n l ≡ turn.Call ∷ []
+  turn-called = cond-false _ _ _ loud ∙ ap (turnFor n) call
+
+  pub call-called : callsOf l ≡ a ∷ []
+  call-called = cond-false _ _ _ loud ∙ ap callFor call

@@ -13,7 +13,6 @@ ghost use Rattle.law.specs.Calls.{asks, lines, log as logged};
 ghost use Rattle.consoling.specs.Runs.{unitOn, answersText, besideText, bothText, consoleText, Ran, RanBoth, RanOn};
 use crate::scripts::find_bench;
 use crate::scripts::read_body;
-use crate::turns::Body;
 use crate::turns::Found;
 use crate::turns::Script;
 use crate::writers::push_answers;
@@ -181,11 +180,11 @@ fn answer_script(heap: Global, setup: Setup, text: &[u8], passed: u64, out: &mut
     requires { ⌜ passed + length (now text) < 2 ^ 64 ⌝ }
     ensures { λ r. ⌜ made r (λ _. vec-items (now (out .exit)) ≡ vec-items (now (out .entry)) ++ bothText setup (passed + 1) (linesIn (now (text .entry)))) ⌝ }
 {
-    let Body { script, parted, rest, passed } = read_body(heap, text, passed, true)?;
-    if parted {
-        answer_beside(heap, setup, script, rest, passed, out)
+    let body = read_body(heap, text, passed, true)?;
+    if body.parted {
+        answer_beside(heap, setup, body.script, body.rest, body.passed, out)
     } else {
-        answer_alone(heap, setup, script, out)
+        answer_alone(heap, setup, body.script, out)
     }
 }
 

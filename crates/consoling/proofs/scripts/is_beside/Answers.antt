@@ -31,4 +31,4 @@ returns-else-is-word c =
     let l = c .args .line .now in
     let none = eqb (length (drop 1 (wordsIn l))) 0 in
     let t : sameBytes (getD (wordsIn l) 0 []) (codes "beside") ≡ false = named l (c .split-word .result .0 .now) (c .split-word .ensures .word) (codes "beside") _ false (c .is-word .ensures) (c .if-is-word .left) in
-    sym (ap (λ b. b && none) t)
+    c .if-is-word .left ∙ sym (ap (λ b. b && none) t)

@@ -28,6 +28,6 @@ returns-in-Continue-push-answer-2 c =
     let es = c .args .log .now in
     let next = c .args .next in
     let was = vec-items (c .args .out .now) in
-    let all = vec-items (c .push-answer-2 .last .out) in
+    let all = vec-items (c .push-answer-in-Call .last .out) in
     let h : next < length es = omega (arith, c .pre, c .if-next-log .left) in
     subst (λ (t : Turn). Turned t es next (next + 1) was all) (sym (c .in-Call .is)) (entry-written es next was all (c .index-log-next .result) h (c .index-log-next .is) (c .in-Continue-push-answer-2 .ensures tt))
