@@ -1,0 +1,5 @@
+pub mod Calls
+pub mod Bodies
+pub mod Turning
+pub mod Units
+pub mod Texts
