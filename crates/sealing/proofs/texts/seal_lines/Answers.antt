@@ -21,8 +21,7 @@ write-all-requires c κs =
     let m : Model = meaning ghosts (c .new .result) in
     let registers : m .registers ≡ 2048 = ap (λ (x : Model). x .registers) (c .new .ensures .meaning) in
     let left : m .left ≡ 1000000000 = ap (λ (x : Model). x .left) (c .new .ensures .meaning) in
-    let is = c .seal-all .ensures ∙ ap (λ v. turned (filled v input n)) (c .new-unit .ensures .0) in
-    (
+    let is = c .seal-all .ensures ∙ ap (λ v. turned (filled v input n)) (c .new-unit .ensures .0) in (
       (omega arith, omega arith),
       λ l lt. lane-gives m _ _ input n (omega (arith, registers)) refl (omega (arith, left)) (omega arith) (omega arith) (omega arith) (λ j. omega (arith, c .typed .input j)) is l lt .accepted,
     )
@@ -38,7 +37,7 @@ returns c =
     let f : ℕ → List ℕ = stateOf (view ghosts (c .seal-all .last .unit) .model) in
     let g : ℕ → List ℕ = λ i. encrypted aes128 (keyIn input) (blockIn input i) in
     let same : (l : ℕ) → l < n → f l ≡ g l = λ l lt.
-        lane-gives m _ _ input n (omega (arith, registers)) refl (omega (arith, left)) (omega arith) (omega arith) (omega arith) (λ j. omega (arith, c .typed .input j)) is l lt .state in
+    lane-gives m _ _ input n (omega (arith, registers)) refl (omega (arith, left)) (omega arith) (omega arith) (omega arith) (λ j. omega (arith, c .typed .input j)) is l lt .state in
     record {
       text = c .write-all .ensures ∙ ap (λ l. l ++ drop (33 * n) (c .args .out .now)) (same-lines f g n same);
       size = length-lines g n (λ i lt. ap length (sym (same i lt)));
