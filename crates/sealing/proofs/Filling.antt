@@ -1,7 +1,7 @@
 -- The lanes of a unit filled with a key and blocks, scheduled and sealed. Assumes nothing.
 use mathlib.Core.Path.{_≡_, refl, sym, ap, subst, _∙_}
-use mathlib.Core.Logic.{_⊎_, inl, inr, ⊎-elim}
-use mathlib.Core.Bool.{Bool, true, false, cond, _&&_}
+use mathlib.Core.Logic.{⊎-elim}
+use mathlib.Core.Bool.{Bool, true, false, cond}
 use mathlib.Core.List.{List, [], _∷_, _++_, map}
 use Prim.Native.Nat.{ℕ, zero, suc, _+_, _-_, _*_, _≤_, _<_}
 use native.Mathlib.Omega.{arith}
@@ -21,15 +21,14 @@ use Rattle.plans.proofs.Counts.{schedule-count, seal-count}
 use Rattle.lanetable.specs.declared.records.KeyState.the-variants.{Placed}
 use Rattle.lanetable.specs.declared.records.LaneRecord.{LaneRecord}
 use Rattle.lanetable.specs.Records.{empty, withKey, withBlock, promotes, anyPlaced, anyBlock, lowestFrom, lowestUnready}
-use Rattle.unit.specs.Works.{kind, worked, K, S}
+use Rattle.unit.specs.Works.{kind, K, S}
 use Rattle.unit.specs.View.{View, Shape, shape, made}
 use Rattle.unit.specs.Lanes.{stateOf}
 use Rattle.unit.specs.Answers.{ask, fits, enough, everyKey, placing, reading, scheduling, working, settled}
 use Rattle.unit.proofs.Planned.{planned-registers, planned-lanes, worked-falls}
 use Rattle.unit.proofs.Settled.{Sized}
 use Rattle.law.specs.Calls.{Asked, place-key, place-block, schedule, seal, refusal, done, next}
-use Rattle.law.specs.Book.{Page, Book, blank, wrote}
-use Rattle.law.specs.Book.{turned as turnedPage}
+use Rattle.law.specs.Book.{Page, Book, blank, wrote, turned as turnedPage}
 use Rattle.law.proofs.Holds.{Holds, HoldsBlock, made-holds, done-holds}
 use Rattle.sealing.specs.Sealed.{keyIn, blockIn}
 use Rattle.sealing.specs.Steps.{filled, turned}
@@ -217,7 +216,6 @@ sealed-gives v₀ v input n z some le gates h l lt =
     let er = h .registers in
     let el = h .lanes in
     let eg = h .left in
-    let costs = schedule-count in
     let size : Sized (shape v) = record { room = omega (arith, z .room); some = omega (arith, z .some); few = omega arith } in
     let enough-first : K ≤ v .model .left = omega (arith, schedule-count) in
     let e₁ : refusal (shape v) schedule ≡ None = scheduling-none (shape v) size (ap anyPlaced rs ∙ full-placed n (replicate m empty) some) enough-first in

@@ -1,12 +1,12 @@
 -- Lines of hexadecimal digits, written into a buffer. Assumes nothing.
-use mathlib.Core.Path.{_≡_, refl, sym, ap, ap₂, subst, _∙_}
+use mathlib.Core.Path.{_≡_, refl, sym, ap, ap₂, _∙_}
 use mathlib.Core.List.{List, [], _∷_, _++_, append-assoc}
-use Prim.Native.Nat.{ℕ, zero, suc, _+_, _-_, _*_, _/_, _%_, _≤_, _<_}
+use Prim.Native.Nat.{ℕ, zero, suc, _+_, _*_, _/_, _%_, _<_}
 use native.Mathlib.Omega.{arith}
 use native.Mathlib.Numerals.{add-one}
 use lib.ListN.{length, getD, set, take, drop}
 use borrow.Rule.Slice.PartMut.{putMid}
-use Rattle.std.proofs.shelf.Lists.{length-append, length-take, length-drop, set-at, take-at, drop-at, take-all, drop-all, take-more, drop-more, drop-drop}
+use Rattle.std.proofs.shelf.Lists.{length-append, length-take, set-at, take-at, drop-at, take-all, drop-all, take-more, drop-more, drop-drop}
 use Rattle.text.specs.Text.{hexDigit, hexPairs}
 use Rattle.sealing.specs.Sealed.{hexLine, linesTo}
 
