@@ -5,6 +5,7 @@
 --   partText           what is written for the lines after a bench line
 --   consoleText t      what is written for the script t
 --   Ran, RanBoth       a list of calls performed on a unit, and two on a unit each: the answers, and the law over them
+--   consoleLaw t       the law over the calls of the script t and their answers
 use Prim.Native.Nat.{ℕ, _≤_}
 use mathlib.Core.Path.{_≡_}
 use mathlib.Core.Bool.{Bool, true, false, cond}
@@ -89,3 +90,34 @@ pub record RanBoth (p q : Model) (cs bs : List Asked) (xs ys : List Line) : Type
 abbrev pub RanOn : Model → Option Setup → List Asked → List Asked → List Line → List Line → Type 0
 RanOn m None cs bs xs ys = Ran m cs xs
 RanOn m (Some s) cs bs xs ys = RanBoth m (opens s) cs bs xs ys
+
+-- the calls cs on the unit over the bench that s writes, with their answers
+abbrev pub LawOne : Setup → List Asked → Type 0
+LawOne s cs = Ran (opens s) cs (log (unitOn s) cs)
+
+-- the same of two lists of calls, each on a unit of its own
+abbrev pub LawTwo : Setup → Setup → List Asked → List Asked → Type 0
+LawTwo s t cs bs = RanBoth (opens s) (opens t) cs bs (log (unitOn s) cs) (log (unitOn t) bs)
+
+-- where a second script is begun, whose lines after its bench line are ls
+abbrev pub lawBeside : Setup → List Asked → Found → List (List ℕ) → Type 0
+lawBeside s cs found.Nothing ls = LawOne s cs
+lawBeside s cs (found.Unreadable k) ls = LawOne s cs
+lawBeside s cs (found.Bench t) ls = LawTwo s t cs (callsIn false ls)
+
+-- whether one is begun, in the lines ls from line n on
+abbrev pub lawParted : Bool → Setup → List Asked → ℕ → List (List ℕ) → Type 0
+lawParted true s cs n ls = lawBeside s cs (foundIn n ls) (pastBench ls)
+lawParted false s cs n ls = LawOne s cs
+
+-- the first script, of which the lines ls stand after the bench line
+abbrev pub lawBoth : Setup → ℕ → List (List ℕ) → Type 0
+lawBoth s n ls = lawParted (partedIn true ls) s (callsIn true ls) (numberBeyond true n ls) (beyond true ls)
+
+abbrev pub lawOpened : Found → ℕ → List (List ℕ) → Type 0
+lawOpened found.Nothing n ls = Unit {0}
+lawOpened (found.Unreadable k) n ls = Unit {0}
+lawOpened (found.Bench s) n ls = lawBoth s n ls
+
+abbrev pub consoleLaw : List ℕ → Type 0
+consoleLaw t = lawOpened (foundIn 1 (linesIn t)) (numberPast 1 (linesIn t)) (pastBench (linesIn t))

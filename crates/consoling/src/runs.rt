@@ -1,5 +1,6 @@
 // A whole script, on one unit or on two.
 ghost use mathlib.Core.Path.{_≡_};
+ghost use mathlib.Core.Bool.{true};
 ghost use mathlib.Core.List.{[], _∷_, _++_};
 ghost use lib.Chars.{codes};
 ghost use Prim.Native.Nat.{_+_, _<_, _^_};
@@ -10,7 +11,7 @@ ghost use Rattle.text.specs.Text.{linesIn};
 ghost use Rattle.playing.specs.Setups.{beside, opens};
 ghost use Rattle.unit.specs.Held.{meaning};
 ghost use Rattle.law.specs.Calls.{asks, lines, log as logged};
-ghost use Rattle.consoling.specs.Runs.{unitOn, answersText, besideText, bothText, consoleText, Ran, RanBoth, RanOn};
+ghost use Rattle.consoling.specs.Runs.{unitOn, answersText, besideText, bothText, consoleText, Ran, RanBoth, RanOn, LawOne, LawTwo, lawParted, lawBoth, consoleLaw};
 use crate::scripts::find_bench;
 use crate::scripts::read_body;
 use crate::turns::Found;
@@ -133,7 +134,8 @@ fn run_setups(heap: Global, setup: Setup, other: Option<Setup>, first: &mut [Ent
 
 // Performs a script that has no second one, and appends its answers.
 fn answer_alone(heap: Global, setup: Setup, script: Script, out: &mut Vec<u8>) -> Result<(), AllocError>
-    ensures { λ r. ⌜ made r (λ _. vec-items (now (out .exit)) ≡ vec-items (now (out .entry)) ++ answersText (vec-items (script .turns)) (logged (unitOn setup) (asks (vec-items (script .log))))) ⌝ }
+    ensures text { λ r. ⌜ made r (λ _. vec-items (now (out .exit)) ≡ vec-items (now (out .entry)) ++ answersText (vec-items (script .turns)) (logged (unitOn setup) (asks (vec-items (script .log))))) ⌝ }
+    ensures law { λ r. ⌜ made r (λ _. LawOne setup (asks (vec-items (script .log)))) ⌝ }
 {
     let mut script = script;
     run_setups(heap, setup, None, script.log.as_mut_slice(), &mut [])?;
@@ -142,7 +144,8 @@ fn answer_alone(heap: Global, setup: Setup, script: Script, out: &mut Vec<u8>) -
 
 // Performs two scripts, and appends the answers of both.
 fn answer_both(heap: Global, setup: Setup, other: Setup, one: Script, two: Script, out: &mut Vec<u8>) -> Result<(), AllocError>
-    ensures { λ r. ⌜ made r (λ _. vec-items (now (out .exit)) ≡ vec-items (now (out .entry)) ++ (answersText (vec-items (one .turns)) (logged (unitOn setup) (asks (vec-items (one .log)))) ++ ((codes "beside" ++ (10 ∷ [])) ++ answersText (vec-items (two .turns)) (logged (unitOn other) (asks (vec-items (two .log))))))) ⌝ }
+    ensures text { λ r. ⌜ made r (λ _. vec-items (now (out .exit)) ≡ vec-items (now (out .entry)) ++ (answersText (vec-items (one .turns)) (logged (unitOn setup) (asks (vec-items (one .log)))) ++ ((codes "beside" ++ (10 ∷ [])) ++ answersText (vec-items (two .turns)) (logged (unitOn other) (asks (vec-items (two .log))))))) ⌝ }
+    ensures law { λ r. ⌜ made r (λ _. LawTwo setup other (asks (vec-items (one .log))) (asks (vec-items (two .log)))) ⌝ }
 {
     let mut one = one;
     let mut two = two;
@@ -155,7 +158,8 @@ fn answer_both(heap: Global, setup: Setup, other: Setup, one: Script, two: Scrip
 // A script, and the text after the line `beside`, before which `passed` lines stood.
 fn answer_beside(heap: Global, setup: Setup, script: Script, rest: &[u8], passed: u64, out: &mut Vec<u8>) -> Result<(), AllocError>
     requires { ⌜ passed + length (now rest) < 2 ^ 64 ⌝ }
-    ensures { λ r. ⌜ made r (λ _. vec-items (now (out .exit)) ≡ vec-items (now (out .entry)) ++ (answersText (vec-items (script .turns)) (logged (unitOn setup) (asks (vec-items (script .log)))) ++ besideText (passed + 1) (linesIn (now (rest .entry))))) ⌝ }
+    ensures text { λ r. ⌜ made r (λ _. vec-items (now (out .exit)) ≡ vec-items (now (out .entry)) ++ (answersText (vec-items (script .turns)) (logged (unitOn setup) (asks (vec-items (script .log)))) ++ besideText (passed + 1) (linesIn (now (rest .entry))))) ⌝ }
+    ensures law { λ r. ⌜ made r (λ _. lawParted true setup (asks (vec-items (script .log))) (passed + 1) (linesIn (now (rest .entry)))) ⌝ }
 {
     let opening = find_bench(rest, passed);
     match opening.found {
@@ -178,7 +182,8 @@ fn answer_beside(heap: Global, setup: Setup, script: Script, rest: &[u8], passed
 // The lines after the bench line.
 fn answer_script(heap: Global, setup: Setup, text: &[u8], passed: u64, out: &mut Vec<u8>) -> Result<(), AllocError>
     requires { ⌜ passed + length (now text) < 2 ^ 64 ⌝ }
-    ensures { λ r. ⌜ made r (λ _. vec-items (now (out .exit)) ≡ vec-items (now (out .entry)) ++ bothText setup (passed + 1) (linesIn (now (text .entry)))) ⌝ }
+    ensures text { λ r. ⌜ made r (λ _. vec-items (now (out .exit)) ≡ vec-items (now (out .entry)) ++ bothText setup (passed + 1) (linesIn (now (text .entry)))) ⌝ }
+    ensures law { λ r. ⌜ made r (λ _. lawBoth setup (passed + 1) (linesIn (now (text .entry)))) ⌝ }
 {
     let body = read_body(heap, text, passed, true)?;
     if body.parted {
@@ -190,7 +195,8 @@ fn answer_script(heap: Global, setup: Setup, text: &[u8], passed: u64, out: &mut
 
 // What is written for a whole script.
 pub fn console_script(heap: Global, script: &[u8]) -> Result<Vec<u8>, AllocError>
-    ensures { λ r. ⌜ made r (λ v. vec-items v ≡ consoleText (now (script .entry))) ⌝ }
+    ensures text { λ r. ⌜ made r (λ v. vec-items v ≡ consoleText (now (script .entry))) ⌝ }
+    ensures law { λ r. ⌜ made r (λ _. consoleLaw (now (script .entry))) ⌝ }
 {
     let mut out = Vec::new(heap);
     let opening = find_bench(script, 0);

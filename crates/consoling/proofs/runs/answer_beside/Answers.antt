@@ -8,8 +8,10 @@ use Rattle.playing.specs.declared.answers.Answer.the-variants.{Unreadable}
 use Rattle.playing.specs.Answers.{answerLine}
 use Rattle.playing.proofs.Written.{last-pushed}
 use Rattle.law.specs.Calls.{asks, log}
-use Rattle.consoling.specs.Runs.{unitOn, answersText}
-use Rattle.consoling.proofs.Texts.{besideLine, nothing-beside, unreadable-beside}
+use Rattle.consoling.specs.declared.turns.Found.{Found}
+use Rattle.consoling.specs.Scripts.{pastBench}
+use Rattle.consoling.specs.Runs.{unitOn, answersText, lawBeside}
+use Rattle.consoling.proofs.Texts.{besideLine, nothing-beside, unreadable-beside, made-all}
 use Rattle.consoling.proofs.runs.answer_beside.Needs as need
 
 pub returns-in-Continue-answer-alone : need.returns-in-Continue-answer-alone
@@ -20,8 +22,13 @@ returns-in-Continue-answer-alone c =
     let all = vec-items (c .push-text .last .out) in
     let t = answersText (vec-items (c .args .script .turns)) (log (unitOn (c .args .setup)) (asks (vec-items (c .args .script .log)))) in
     let none = sym (c .find-bench-opening .ensures .«read» .says) ∙ c .in-Nothing .is in
-    subst (λ (b : List ℕ). made r (λ _. all ≡ start ++ (t ++ b))) (nothing-beside (c .args .passed + 1) (linesIn (c .args .rest .now)) none)
-      (last-pushed r start had all t besideLine (c .in-Continue-answer-alone .ensures tt) (c .push-text .ensures))
+    let ls = linesIn (c .args .rest .now) in
+    let n = c .args .passed + 1 in
+    record {
+      text = subst (λ (b : List ℕ). made r (λ _. all ≡ start ++ (t ++ b))) (nothing-beside n ls none)
+        (last-pushed r start had all t besideLine (c .in-Continue-answer-alone .ensures tt .text) (c .push-text .ensures));
+      law = made-all r _ (subst (λ (f : Found). lawBeside (c .args .setup) (asks (vec-items (c .args .script .log))) f (pastBench ls)) (sym none) (c .in-Continue-answer-alone .ensures tt .law));
+    }
 
 pub returns-in-Continue-push-text : need.returns-in-Continue-push-text
 returns-in-Continue-push-text c =
@@ -34,5 +41,10 @@ returns-in-Continue-push-text c =
     let u = answerLine (Unreadable k) in
     let t = answersText (vec-items (c .args .script .turns)) (log (unitOn (c .args .setup)) (asks (vec-items (c .args .script .log)))) in
     let bad = sym (c .find-bench-opening .ensures .«read» .says) ∙ c .in-Unreadable .is in
-    subst (λ (b : List ℕ). made r (λ _. all ≡ start ++ (t ++ b))) (unreadable-beside (c .args .passed + 1) (linesIn (c .args .rest .now)) k bad)
-      (last-pushed r start a1 all t (besideLine ++ u) (c .in-Continue-answer-alone-2 .ensures tt) (last-pushed r a1 a2 all besideLine u (c .in-Continue-push-text .ensures tt) (c .push-answer .ensures)))
+    let ls = linesIn (c .args .rest .now) in
+    let n = c .args .passed + 1 in
+    record {
+      text = subst (λ (b : List ℕ). made r (λ _. all ≡ start ++ (t ++ b))) (unreadable-beside n ls k bad)
+        (last-pushed r start a1 all t (besideLine ++ u) (c .in-Continue-answer-alone-2 .ensures tt .text) (last-pushed r a1 a2 all besideLine u (c .in-Continue-push-text .ensures tt) (c .push-answer .ensures)));
+      law = made-all r _ (subst (λ (f : Found). lawBeside (c .args .setup) (asks (vec-items (c .args .script .log))) f (pastBench ls)) (sym bad) (c .in-Continue-answer-alone-2 .ensures tt .law));
+    }

@@ -9,7 +9,7 @@ use Rattle.playing.proofs.Written.{last-pushed}
 use Rattle.law.specs.declared.calls.Entry.{Entry}
 use Rattle.law.specs.Calls.{asks, lines, log}
 use Rattle.consoling.specs.Runs.{unitOn, answersText}
-use Rattle.consoling.proofs.Texts.{besideLine}
+use Rattle.consoling.proofs.Texts.{besideLine, made-all, law-two}
 use Rattle.consoling.proofs.runs.answer_both.Needs as need
 
 pub returns : need.returns
@@ -34,4 +34,7 @@ returns c =
     let t2 = answersText (vec-items (c .args .two .turns)) (log two (asks (vec-items (c .args .two .log)))) in
     let p1 : a1 ≡ start ++ t1 = c .in-Continue-push-answers .ensures tt ∙ ap (λ (t : List ℕ). start ++ t) (ap₂ answersText (c .as-slice .ensures .value) told₁) in
     let p3 : made r (λ _. all ≡ a2 ++ t2) = subst (λ (t : List ℕ). made r (λ _. all ≡ a2 ++ t)) (ap₂ answersText (c .as-slice-3 .ensures .value) told₂) (c .push-answers-2 .ensures) in
-    last-pushed r start a1 all t1 (besideLine ++ t2) p1 (last-pushed r a1 a2 all besideLine t2 (c .in-Continue-push-text .ensures tt) p3)
+    record {
+      text = last-pushed r start a1 all t1 (besideLine ++ t2) p1 (last-pushed r a1 a2 all besideLine t2 (c .in-Continue-push-text .ensures tt) p3);
+      law = made-all r _ (law-two (c .args .setup) (c .args .other) _ _ _ _ _ _ ran (ap asks (c .as-mut-slice .ensures .value)) (ap asks (c .as-mut-slice-2 .ensures .value)));
+    }
