@@ -1,0 +1,5 @@
+mod Written
+mod Lows
+mod Sums
+mod Listed
+mod Turns
