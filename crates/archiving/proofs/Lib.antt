@@ -3,3 +3,5 @@ mod Lows
 mod Sums
 mod Listed
 mod Turns
+mod Held
+mod Cases
