@@ -1,0 +1,7 @@
+mod Written
+mod Lows
+mod Sums
+mod Listed
+mod Turns
+mod Held
+mod Cases

@@ -1,1 +1,4 @@
 pub mod Traces
+pub mod Lines
+pub mod Listings
+pub mod Parts

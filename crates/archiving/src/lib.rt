@@ -1,9 +1,9 @@
 // The archive: a text from which blocks can be recovered by hand, with every page, plan and number in it.
-pub mod gates;
+mod gates;
 pub mod traces;
 mod names;
 mod lines;
-mod listings;
+pub mod listings;
 mod prose;
 mod steps;
 mod planlists;

@@ -1,14 +1,19 @@
-// Pages gate by gate, and plans play by play.
+// Pages gate by gate, and plans play by play: each function appends to what `out` holds.
+ghost use mathlib.Core.Path.{_≡_};
+ghost use mathlib.Core.List.{_++_};
+ghost use Prim.Native.Nat.{ℕ, _+_, _*_, _≤_, _<_, _^_};
+ghost use lib.ListN.{length, drop};
+ghost use Rattle.std.specs.Of.Vec.{vec-items};
+ghost use Rattle.std.specs.Vec.{made};
+ghost use Rattle.archiving.specs.Traces.{unitWord, unitWords, filled, inputWord, inputWords};
+ghost use Rattle.archiving.specs.Listings.{sums, onlySums, maskLines, columnLines, masksText, columnsText, sizesText, checksText, listedText, gatesText, playLines};
 use bench::gates::Gate;
 use bench::kinds::Kind;
 use crate::gates::list_gates;
 use crate::lines::push_column_line;
 use crate::lines::push_mask_line;
 use crate::lines::push_play;
-use crate::names::name_of;
-use crate::names::purpose_of;
 use crate::traces::do_gate;
-use plans::pages::INVERT;
 use plans::plays::Play;
 use player::pages::Page;
 use std::alloc::AllocError;
@@ -16,34 +21,58 @@ use std::alloc::Global;
 use text::writes::push_number;
 use text::writes::push_text;
 
-// Whether every gate's target holds a sum of inputs.
-fn only_sums(gates: &[Gate]) -> bool {
+// Whether a gate's target holds a sum of what its operands hold.
+fn is_sum(gate: Gate) -> bool
+    ensures { λ r. ⌜ r ≡ sums (gate .kind) (gate .first) (gate .second) ⌝ }
+{
+    match gate.kind {
+        Kind::Xor => true,
+        Kind::And => gate.first == gate.second,
+        Kind::Or => false,
+        Kind::Xnor => true,
+        Kind::Nand => false,
+        Kind::Nor => false,
+    }
+}
+
+fn only_sums(gates: &[Gate]) -> bool
+    ensures { λ r. ⌜ r ≡ onlySums (now (gates .entry)) ⌝ }
+{
     for gate in gates {
-        match gate.kind {
-            Kind::Xor => {}
-            Kind::Xnor => {}
-            Kind::And => {
-                if gate.first != gate.second {
-                    return false;
-                }
-            }
-            _ => return false,
+        if !is_sum(*gate) {
+            return false;
         }
     }
     true
 }
 
-// Words whose case i has input i alone at 1.
-fn unit_words(heap: Global, inputs: usize, count: usize) -> Result<Vec<u64>, AllocError> {
+// The word of number n whose case i has input i alone at 1.
+fn unit_word(inputs: usize, n: usize) -> u64
+    ensures { λ r. ⌜ r ≡ unitWord inputs n ⌝ }
+{
+    if n < inputs && n < 64 { 1u64 << n } else { 0 }
+}
+
+fn unit_words(heap: Global, inputs: usize, count: usize) -> Result<Vec<u64>, AllocError>
+    ensures { λ r. ⌜ made r (λ v. vec-items v ≡ unitWords inputs count) ⌝ }
+{
     let mut words = Vec::new(heap);
     for n in 0..count {
-        words.push(if n < inputs && n < 64 { 1u64 << n } else { 0 })?;
+        words.push(unit_word(inputs, n))?;
     }
     Ok(words)
 }
 
+fn filled_by(bit: u8) -> u64
+    ensures { λ r. ⌜ r ≡ filled bit ⌝ }
+{
+    if bit == 1 { u64::MAX } else { 0 }
+}
+
 // Bit n of the bytes 64 * quarter, 64 * quarter + 1, .., 64 * quarter + 63.
-fn input_word(quarter: u8, n: usize) -> u64 {
+fn input_word(quarter: u8, n: usize) -> u64
+    ensures { λ r. ⌜ r ≡ inputWord quarter n ⌝ }
+{
     match n {
         0 => 0xaaaa_aaaa_aaaa_aaaa,
         1 => 0xcccc_cccc_cccc_cccc,
@@ -51,14 +80,15 @@ fn input_word(quarter: u8, n: usize) -> u64 {
         3 => 0xff00_ff00_ff00_ff00,
         4 => 0xffff_0000_ffff_0000,
         5 => 0xffff_ffff_0000_0000,
-        6 => if quarter % 2 == 1 { u64::MAX } else { 0 },
-        7 => if quarter / 2 % 2 == 1 { u64::MAX } else { 0 },
+        6 => filled_by(quarter % 2),
+        7 => filled_by(quarter / 2 % 2),
         _ => 0,
     }
 }
 
-// Words whose 64 cases have the bytes of a quarter in socket 0.
-fn input_words(heap: Global, quarter: u8, count: usize) -> Result<Vec<u64>, AllocError> {
+fn input_words(heap: Global, quarter: u8, count: usize) -> Result<Vec<u64>, AllocError>
+    ensures { λ r. ⌜ made r (λ v. vec-items v ≡ inputWords quarter count) ⌝ }
+{
     let mut words = Vec::new(heap);
     for n in 0..count {
         words.push(input_word(quarter, n))?;
@@ -66,7 +96,10 @@ fn input_words(heap: Global, quarter: u8, count: usize) -> Result<Vec<u64>, Allo
     Ok(words)
 }
 
-fn push_mask_lines(out: &mut Vec<u8>, gates: &[Gate], sockets: u16, units: &mut [u64], blanks: &mut [u64]) -> Result<(), AllocError> {
+fn push_mask_lines(out: &mut Vec<u8>, gates: &[Gate], sockets: u16, units: &mut [u64], blanks: &mut [u64]) -> Result<(), AllocError>
+    requires { ⌜ sockets ≤ 8 ⌝ }
+    ensures { λ r. ⌜ made r (λ _. vec-items (now (out .exit)) ≡ vec-items (now (out .entry)) ++ maskLines sockets 0 (now (units .entry)) (now (blanks .entry)) (now (gates .entry))) ⌝ }
+{
     for i in 0..gates.len() {
         let gate = gates[i];
         let word = do_gate(units, gate);
@@ -76,32 +109,44 @@ fn push_mask_lines(out: &mut Vec<u8>, gates: &[Gate], sockets: u16, units: &mut 
     Ok(())
 }
 
-fn push_column_lines(out: &mut Vec<u8>, gates: &[Gate], w0: &mut [u64], w1: &mut [u64], w2: &mut [u64], w3: &mut [u64]) -> Result<(), AllocError> {
+fn push_column_lines(out: &mut Vec<u8>, gates: &[Gate], w0: &mut [u64], w1: &mut [u64], w2: &mut [u64], w3: &mut [u64]) -> Result<(), AllocError>
+    ensures { λ r. ⌜ made r (λ _. vec-items (now (out .exit)) ≡ vec-items (now (out .entry)) ++ columnLines 0 (now (w0 .entry)) (now (w1 .entry)) (now (w2 .entry)) (now (w3 .entry)) (now (gates .entry))) ⌝ }
+{
     for i in 0..gates.len() {
         let gate = gates[i];
-        let column = [do_gate(w0, gate), do_gate(w1, gate), do_gate(w2, gate), do_gate(w3, gate)];
-        push_column_line(out, i as u64, gate, column)?;
+        let x0 = do_gate(w0, gate);
+        let x1 = do_gate(w1, gate);
+        let x2 = do_gate(w2, gate);
+        let x3 = do_gate(w3, gate);
+        push_column_line(out, i as u64, gate, x0, x1, x2, x3)?;
     }
     Ok(())
 }
 
-fn push_masks(heap: Global, out: &mut Vec<u8>, gates: &[Gate], sockets: u16, count: usize) -> Result<(), AllocError> {
-    push_text(out, b" gate  kind    t    a    b   mask\n")?;
+fn push_masks(heap: Global, out: &mut Vec<u8>, gates: &[Gate], sockets: u16, count: usize) -> Result<(), AllocError>
+    requires { ⌜ sockets ≤ 8 ⌝ }
+    ensures { λ r. ⌜ made r (λ _. vec-items (now (out .exit)) ≡ vec-items (now (out .entry)) ++ masksText sockets count (now (gates .entry))) ⌝ }
+{
     let mut units = unit_words(heap, 8 * sockets as usize, count)?;
     let mut blanks = unit_words(heap, 0, count)?;
+    push_text(out, b" gate  kind    t    a    b   mask\n")?;
     push_mask_lines(out, gates, sockets, units.as_mut_slice(), blanks.as_mut_slice())
 }
 
-fn push_columns(heap: Global, out: &mut Vec<u8>, gates: &[Gate], count: usize) -> Result<(), AllocError> {
-    push_text(out, b" gate  kind    t    a    b   column\n")?;
+fn push_columns(heap: Global, out: &mut Vec<u8>, gates: &[Gate], count: usize) -> Result<(), AllocError>
+    ensures { λ r. ⌜ made r (λ _. vec-items (now (out .exit)) ≡ vec-items (now (out .entry)) ++ columnsText count (now (gates .entry))) ⌝ }
+{
     let mut w0 = input_words(heap, 0, count)?;
     let mut w1 = input_words(heap, 1, count)?;
     let mut w2 = input_words(heap, 2, count)?;
     let mut w3 = input_words(heap, 3, count)?;
+    push_text(out, b" gate  kind    t    a    b   column\n")?;
     push_column_lines(out, gates, w0.as_mut_slice(), w1.as_mut_slice(), w2.as_mut_slice(), w3.as_mut_slice())
 }
 
-fn push_sizes(out: &mut Vec<u8>, gates: usize, sockets: u16, scratch: u16) -> Result<(), AllocError> {
+fn push_sizes(out: &mut Vec<u8>, gates: usize, sockets: u16, scratch: u16) -> Result<(), AllocError>
+    ensures { λ r. ⌜ made r (λ _. vec-items (now (out .exit)) ≡ vec-items (now (out .entry)) ++ sizesText gates sockets scratch) ⌝ }
+{
     push_text(out, b"G = ")?;
     push_number(out, gates as u64)?;
     push_text(out, b", Q = ")?;
@@ -111,52 +156,45 @@ fn push_sizes(out: &mut Vec<u8>, gates: usize, sockets: u16, scratch: u16) -> Re
     push_text(out, b"\n")
 }
 
-fn push_gates(heap: Global, out: &mut Vec<u8>, bytes: &[u8]) -> Result<(), AllocError> {
-    let Ok(page) = Page::read(bytes) else {
-        return push_text(out, b"These bytes are no whole page.\n");
-    };
-    push_sizes(out, page.kinds.len(), page.sockets, page.scratch)?;
-    let gates = list_gates(heap, page.kinds, page.places)?;
-    let count = 8 * page.sockets as usize + page.scratch as usize;
-    if page.sockets <= 8 && only_sums(gates.as_slice()) {
-        push_masks(heap, out, gates.as_slice(), page.sockets, count)
+fn push_checks(heap: Global, out: &mut Vec<u8>, gates: &[Gate], sockets: u16, scratch: u16) -> Result<(), AllocError>
+    ensures { λ r. ⌜ made r (λ _. vec-items (now (out .exit)) ≡ vec-items (now (out .entry)) ++ checksText sockets scratch (now (gates .entry))) ⌝ }
+{
+    let count = 8 * sockets as usize + scratch as usize;
+    if sockets > 8 {
+        return push_columns(heap, out, gates, count);
+    }
+    if only_sums(gates) {
+        push_masks(heap, out, gates, sockets, count)
     } else {
-        push_columns(heap, out, gates.as_slice(), count)
+        push_columns(heap, out, gates, count)
     }
 }
 
-// A page: its name, what it does, its sizes and its gates.
-pub(crate) fn push_page(heap: Global, out: &mut Vec<u8>, play: &Play) -> Result<(), AllocError> {
-    push_text(out, b"\nPAGE ")?;
-    push_text(out, name_of(play))?;
-    push_text(out, b"\n")?;
-    push_text(out, purpose_of(play))?;
-    push_text(out, b"\n")?;
-    push_gates(heap, out, play.page(&INVERT))
+fn push_listed(heap: Global, out: &mut Vec<u8>, kinds: &[u8], places: &[u8], sockets: u16, scratch: u16) -> Result<(), AllocError>
+    requires { ⌜ length (now places) ≡ 6 * length (now kinds) ⌝ }
+    ensures { λ r. ⌜ made r (λ _. vec-items (now (out .exit)) ≡ vec-items (now (out .entry)) ++ listedText (now (kinds .entry)) (now (places .entry)) sockets scratch) ⌝ }
+{
+    let gates = list_gates(heap, kinds, places)?;
+    push_sizes(out, kinds.len(), sockets, scratch)?;
+    push_checks(heap, out, gates.as_slice(), sockets, scratch)
 }
 
-// The plays, whose indices begin at `from`.
-fn push_plays(out: &mut Vec<u8>, from: usize, plays: &[Play]) -> Result<(), AllocError> {
-    for i in 0..plays.len() {
-        push_play(out, from.wrapping_add(i) as u64, &plays[i])?;
+// The sizes of a page and its gates, each with its check.
+pub fn push_gates(heap: Global, out: &mut Vec<u8>, bytes: &[u8]) -> Result<(), AllocError>
+    ensures { λ r. ⌜ made r (λ _. vec-items (now (out .exit)) ≡ vec-items (now (out .entry)) ++ gatesText (now (bytes .entry))) ⌝ }
+{
+    match Page::read(bytes) {
+        Ok(page) => push_listed(heap, out, page.kinds, page.places, page.sockets, page.scratch),
+        Err(_) => push_text(out, b"These bytes are no whole page.\n"),
+    }
+}
+
+// A line for each play from index `from` on.
+pub fn push_plays(out: &mut Vec<u8>, plan: &[Play], from: usize) -> Result<(), AllocError>
+    ensures { λ r. ⌜ made r (λ _. vec-items (now (out .exit)) ≡ vec-items (now (out .entry)) ++ playLines from (drop from (now (plan .entry)))) ⌝ }
+{
+    for i in from..plan.len() {
+        push_play(out, i as u64, &plan[i])?;
     }
     Ok(())
-}
-
-// Plays that belong together: what they do, and how many they are.
-pub(crate) struct Step {
-    pub(crate) what: &'static [u8],
-    pub(crate) count: usize,
-}
-
-// The first of the remaining plays of a plan of `total` plays, step by step, and those that then remain.
-pub(crate) fn push_steps<'a>(out: &mut Vec<u8>, total: usize, rest: &'a [Play], steps: &[Step]) -> Result<&'a [Play], AllocError> {
-    let mut rest = rest;
-    for step in steps {
-        push_text(out, step.what)?;
-        let (these, after) = rest.split_at(step.count.min(rest.len()));
-        push_plays(out, total.saturating_sub(rest.len()), these)?;
-        rest = after;
-    }
-    Ok(rest)
 }

@@ -1,4 +1,6 @@
 // The pages' names, and what each does.
+ghost use mathlib.Core.Path.{_≡_};
+ghost use Rattle.archiving.specs.Lines.{nameText};
 use plans::plays::Play;
 
 // Each page once; the bases don't matter here.
@@ -26,29 +28,32 @@ pub(crate) const PAGES: [Play; 21] = [
     Play::Rcon10([0; 2]),
 ];
 
-pub(crate) fn name_of(play: &Play) -> &'static [u8] {
+// The name of a play's page, in eight places.
+pub(crate) fn name_of(play: &Play) -> &'static [u8]
+    ensures { λ r. ⌜ now r ≡ nameText (now (play .entry)) ⌝ }
+{
     match play {
-        Play::Add(_) => b"ADD",
-        Play::Enter(_) => b"ENTER",
-        Play::Invert(_) => b"INVERT",
-        Play::Mix(_) => b"MIX",
-        Play::Finish(_) => b"FINISH",
-        Play::Copy(_) => b"COPY",
-        Play::Affine(_) => b"AFFINE",
-        Play::Sum(_) => b"SUM",
-        Play::Leave(_) => b"LEAVE",
+        Play::Add(_) => b"ADD     ",
+        Play::Enter(_) => b"ENTER   ",
+        Play::Invert(_) => b"INVERT  ",
+        Play::Mix(_) => b"MIX     ",
+        Play::Finish(_) => b"FINISH  ",
+        Play::Copy(_) => b"COPY    ",
+        Play::Affine(_) => b"AFFINE  ",
+        Play::Sum(_) => b"SUM     ",
+        Play::Leave(_) => b"LEAVE   ",
         Play::Unaffine(_) => b"UNAFFINE",
-        Play::Unmix(_) => b"UNMIX",
-        Play::Rcon1(_) => b"RCON_1",
-        Play::Rcon2(_) => b"RCON_2",
-        Play::Rcon3(_) => b"RCON_3",
-        Play::Rcon4(_) => b"RCON_4",
-        Play::Rcon5(_) => b"RCON_5",
-        Play::Rcon6(_) => b"RCON_6",
-        Play::Rcon7(_) => b"RCON_7",
-        Play::Rcon8(_) => b"RCON_8",
-        Play::Rcon9(_) => b"RCON_9",
-        Play::Rcon10(_) => b"RCON_10",
+        Play::Unmix(_) => b"UNMIX   ",
+        Play::Rcon1(_) => b"RCON_1  ",
+        Play::Rcon2(_) => b"RCON_2  ",
+        Play::Rcon3(_) => b"RCON_3  ",
+        Play::Rcon4(_) => b"RCON_4  ",
+        Play::Rcon5(_) => b"RCON_5  ",
+        Play::Rcon6(_) => b"RCON_6  ",
+        Play::Rcon7(_) => b"RCON_7  ",
+        Play::Rcon8(_) => b"RCON_8  ",
+        Play::Rcon9(_) => b"RCON_9  ",
+        Play::Rcon10(_) => b"RCON_10 ",
     }
 }
 

@@ -2,7 +2,8 @@
 ghost use mathlib.Core.Path.{_≡_};
 ghost use Prim.Native.Nat.{ℕ, _<_};
 ghost use lib.ListN.{length, getD};
-ghost use Rattle.bench.specs.Word.{combined};
+ghost use Rattle.bench.specs.Kinds.{result};
+ghost use Rattle.bench.specs.Word.{combined, testBit};
 ghost use Rattle.archiving.specs.Traces.{madeBy, stepped};
 use bench::gates::Gate;
 use bench::kinds::Kind;
@@ -34,6 +35,7 @@ fn word_at(words: &[u64], number: u16) -> u64
 pub fn do_gate(words: &mut [u64], gate: Gate) -> u64
     ensures value { λ r. ⌜ r ≡ madeBy gate (now (words .entry)) ⌝ }
     ensures leaves { λ _. ⌜ now (words .exit) ≡ stepped gate (now (words .entry)) ⌝ }
+    ensures cases { λ r. ⌜ ((l : ℕ) → l < 64 → testBit r l ≡ result (gate .kind) (testBit (getD (now (words .entry)) (gate .first) 0) l) (testBit (getD (now (words .entry)) (gate .second) 0) l)) ⌝ }
 {
     let word = combine(gate.kind, word_at(words, gate.first), word_at(words, gate.second));
     if (gate.target as usize) < words.len() {
