@@ -1,8 +1,8 @@
 // The whole archive.
-ghost use mathlib.Core.List.{[], _∷_};
+ghost use mathlib.Core.List.{[], _∷_, _++_};
 ghost use Rattle.std.specs.Of.Vec.{vec-items};
 ghost use Rattle.std.specs.Vec.{made};
-ghost use Rattle.archiving.specs.Parts.{Holds, Extends, pagePart, pageParts, everyPage};
+ghost use Rattle.archiving.specs.Parts.{Holds, Extends, pagePart, pageParts, everyPage, everyPlay};
 use coordinates::basis::from_coordinates;
 use coordinates::basis::to_coordinates;
 use crate::examples::push_example;
@@ -99,26 +99,26 @@ fn front_text(heap: Global) -> Result<Vec<u8>, AllocError> {
     Ok(out)
 }
 
-// What stands behind them.
+// What stands behind the plans.
 fn back_text(heap: Global) -> Result<Vec<u8>, AllocError> {
     let mut out = Vec::new(heap);
-    push_text(&mut out, PLANS)?;
-    push_plans(&mut out)?;
     push_counts(&mut out)?;
     push_text(&mut out, EXAMPLE)?;
     push_example(heap, &mut out)?;
     Ok(out)
 }
 
-// The text of the archive: it holds every page's listing, in order.
+// The text of the archive: it holds the listing of every page, and then every play of the three plans, in order.
 pub fn archive_text(heap: Global) -> Result<Vec<u8>, AllocError>
-    ensures { λ r. ⌜ made r (λ v. Holds everyPage (vec-items v)) ⌝ }
+    ensures { λ r. ⌜ made r (λ v. Holds (everyPage ++ everyPlay) (vec-items v)) ⌝ }
 {
     let front = front_text(heap)?;
     let back = back_text(heap)?;
     let mut out = Vec::new(heap);
     push_text(&mut out, front.as_slice())?;
     push_pages(heap, &mut out, &INVERT, &PAGES)?;
+    push_text(&mut out, PLANS)?;
+    push_plans(&mut out)?;
     push_text(&mut out, back.as_slice())?;
     Ok(out)
 }
