@@ -59,7 +59,7 @@ reached-step plan a b part u v w x l h e f g = record {
   low = l;
   high = h;
   lines = extends-from (linesOf a (drop a (take b plan))) u v w x e
-    (playLines a (drop a (take b plan)), g ∙ ap (λ (ps : List Play). v ++ playLines a (drop a ps)) f, holds-lines a (drop a (take b plan)));
+      (playLines a (drop a (take b plan)), g ∙ ap (λ (ps : List Play). v ++ playLines a (drop a ps)) f, holds-lines a (drop a (take b plan)));
 }
 
 pub reached-under : (plan : List Play) (a b : ℕ) (u v w : List ℕ) → Extends [] u v → Reached plan a v w b → Reached plan a u w b

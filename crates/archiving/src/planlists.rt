@@ -33,7 +33,12 @@ pub(crate) struct Step {
 }
 
 // The plays of the steps from index `from` on, and the index that follows.
-fn push_steps(out: &mut Vec<u8>, plan: &[Play], from: usize, steps: &[Step]) -> Result<usize, AllocError>
+fn push_steps(
+    out: &mut Vec<u8>,
+    plan: &[Play],
+    from: usize,
+    steps: &[Step],
+) -> Result<usize, AllocError>
     requires { ⌜ from ≤ length (now plan) ⌝ }
     ensures { λ r. ⌜ made r (λ e. Reached (now (plan .entry)) from (vec-items (now (out .entry))) (vec-items (now (out .exit))) e) ⌝ }
 {
@@ -59,7 +64,15 @@ fn push_head(out: &mut Vec<u8>, what: &[u8], n: u64) -> Result<(), AllocError>
 }
 
 // The steps for each number from `low` up to `high`, under a heading.
-fn push_groups(out: &mut Vec<u8>, plan: &[Play], from: usize, what: &[u8], low: u64, high: u64, steps: &[Step]) -> Result<usize, AllocError>
+fn push_groups(
+    out: &mut Vec<u8>,
+    plan: &[Play],
+    from: usize,
+    what: &[u8],
+    low: u64,
+    high: u64,
+    steps: &[Step],
+) -> Result<usize, AllocError>
     requires { ⌜ from ≤ length (now plan) ⌝ }
     ensures { λ r. ⌜ made r (λ e. Reached (now (plan .entry)) from (vec-items (now (out .entry))) (vec-items (now (out .exit))) e) ⌝ }
 {
@@ -72,7 +85,13 @@ fn push_groups(out: &mut Vec<u8>, plan: &[Play], from: usize, what: &[u8], low: 
 }
 
 // A plan of a first stage, nine rounds and a last stage; what these leave over would follow.
-fn push_rounds(out: &mut Vec<u8>, plan: &[Play], first: &[Step], round: &[Step], last: &[Step]) -> Result<(), AllocError>
+fn push_rounds(
+    out: &mut Vec<u8>,
+    plan: &[Play],
+    first: &[Step],
+    round: &[Step],
+    last: &[Step],
+) -> Result<(), AllocError>
     ensures { λ r. ⌜ made r (λ _. Extends (linesOf 0 (now (plan .entry))) (vec-items (now (out .entry))) (vec-items (now (out .exit)))) ⌝ }
 {
     let a = push_groups(out, plan, 0, b"Stage ", 0, 1, first)?;

@@ -14,4 +14,4 @@ loop-n-again c =
     let had = vec-items (c .loop-n .out) in
     let all = vec-items (c .push-steps .last .out) in
     reached-then plan (c .args .from) (c .loop-n .at) _ (vec-items (c .args .out .now)) had all (c .loop-n .inv)
-      (reached-under plan (c .loop-n .at) _ had (vec-items (c .push-head .last .out)) all (c .in-Continue-push-head .ensures tt) (c .in-Continue-at .ensures tt))
+    (reached-under plan (c .loop-n .at) _ had (vec-items (c .push-head .last .out)) all (c .in-Continue-push-head .ensures tt) (c .in-Continue-at .ensures tt))

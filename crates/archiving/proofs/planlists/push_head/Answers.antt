@@ -11,4 +11,4 @@ returns c =
     let v3 = vec-items (c .push-number .last .out) in
     let v4 = vec-items (c .push-text-3 .last .out) in
     extends-from [] v0 v1 v4 _ (c .in-Continue-push-text .ensures tt)
-      (extends-from [] v1 v2 v4 _ (c .in-Continue-push-text-2 .ensures tt) (extends-from [] v2 v3 v4 _ (c .in-Continue-push-number .ensures tt .appends) (extends-by v3 v4 _ (c .in-Continue-push-text-3 .ensures tt))))
+    (extends-from [] v1 v2 v4 _ (c .in-Continue-push-text-2 .ensures tt) (extends-from [] v2 v3 v4 _ (c .in-Continue-push-number .ensures tt .appends) (extends-by v3 v4 _ (c .in-Continue-push-text-3 .ensures tt))))

@@ -25,4 +25,4 @@ returns c =
     let q : Extends y v3 v4 = subst (λ (ps : List Play). Extends (linesOf 0 ps) v3 v4) (c .seal-plan .ensures) (c .in-Continue-push-rounds .ensures tt) in
     let r : Extends z v5 v6 = subst (λ (ps : List Play). Extends (linesOf 0 ps) v5 v6) (c .open-plan .ensures) (c .in-Continue-push-rounds-2 .ensures tt) in
     extends-then x (y ++ z) v0 v2 v6 (extends-from x v0 v1 v2 _ (c .in-Continue-push-text .ensures tt) p)
-      (extends-then y z v2 v4 v6 (extends-from y v2 v3 v4 _ (c .in-Continue-push-text-2 .ensures tt) q) (extends-from z v4 v5 v6 _ (c .in-Continue-push-text-3 .ensures tt) r))
+    (extends-then y z v2 v4 v6 (extends-from y v2 v3 v4 _ (c .in-Continue-push-text-2 .ensures tt) q) (extends-from z v4 v5 v6 _ (c .in-Continue-push-text-3 .ensures tt) r))

@@ -10,4 +10,4 @@ returns c =
     let v2 = vec-items (c .push-groups-2 .last .out) in
     let v3 = vec-items (c .push-groups-3 .last .out) in
     reached-all plan _ v0 v3 (vec-items (c .push-plays .last .out))
-      (reached-then plan 0 _ _ v0 v2 v3 (reached-then plan 0 _ _ v0 v1 v2 (c .in-Continue-a .ensures tt) (c .in-Continue-b .ensures tt)) (c .in-Continue-c .ensures tt)) (c .in-Continue-push-plays .ensures tt)
+    (reached-then plan 0 _ _ v0 v2 v3 (reached-then plan 0 _ _ v0 v1 v2 (c .in-Continue-a .ensures tt) (c .in-Continue-b .ensures tt)) (c .in-Continue-c .ensures tt)) (c .in-Continue-push-plays .ensures tt)

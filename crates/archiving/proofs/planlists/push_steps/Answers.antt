@@ -18,4 +18,4 @@ loop-step-again c =
     let low : at ≤ end = search needs in
     let top : end ≤ length plan = search needs in
     reached-then plan (c .args .from) at end (vec-items (c .args .out .now)) (vec-items (c .loop-step .out)) (vec-items (c .push-plays .last .out)) (c .loop-step .inv)
-      (reached-step plan at end _ (vec-items (c .loop-step .out)) (vec-items (c .push-text .last .out)) (vec-items (c .push-plays .last .out)) _ low top (c .in-Continue-push-text .ensures tt) (c .split-at .ensures .front) (c .in-Continue-push-plays .ensures tt))
+    (reached-step plan at end _ (vec-items (c .loop-step .out)) (vec-items (c .push-text .last .out)) (vec-items (c .push-plays .last .out)) _ low top (c .in-Continue-push-text .ensures tt) (c .split-at .ensures .front) (c .in-Continue-push-plays .ensures tt))
