@@ -5,3 +5,4 @@ mod Listed
 mod Turns
 mod Held
 mod Cases
+mod Reaching

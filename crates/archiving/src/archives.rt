@@ -1,15 +1,13 @@
 // The whole archive.
-ghost use mathlib.Core.List.{[], _∷_};
+ghost use mathlib.Core.List.{[], _∷_, _++_};
 ghost use Rattle.std.specs.Of.Vec.{vec-items};
 ghost use Rattle.std.specs.Vec.{made};
-ghost use Rattle.archiving.specs.Parts.{Holds, Extends, pagePart, pageParts, everyPage};
-use coordinates::basis::from_coordinates;
-use coordinates::basis::to_coordinates;
+ghost use Rattle.archiving.specs.Parts.{Holds, Extends, pagePart, pageParts, everyPage, everyPlay};
 use crate::examples::push_example;
 use crate::listings::push_gates;
+use crate::names::PAGES;
 use crate::names::name_of;
 use crate::names::purpose_of;
-use crate::names::PAGES;
 use crate::planlists::push_plans;
 use crate::prose::AFTER_COORDINATES;
 use crate::prose::COORDINATES;
@@ -19,6 +17,8 @@ use crate::prose::PLANS;
 use crate::prose::TITLE;
 use crate::prose::TO_COORDINATES;
 use crate::prose::WORDS;
+use coordinates::basis::from_coordinates;
+use coordinates::basis::to_coordinates;
 use plans::pages::INVERT;
 use plans::plays::Play;
 use plans::tables::open_gates;
@@ -54,7 +54,12 @@ fn push_coordinates(out: &mut Vec<u8>) -> Result<(), AllocError> {
 }
 
 // A page: its name, what it does, its sizes and its gates.
-fn push_page(heap: Global, out: &mut Vec<u8>, inverter: &[u8], play: &Play) -> Result<(), AllocError>
+fn push_page(
+    heap: Global,
+    out: &mut Vec<u8>,
+    inverter: &[u8],
+    play: &Play,
+) -> Result<(), AllocError>
     ensures { λ r. ⌜ made r (λ _. Extends (pagePart (now (inverter .entry)) (now (play .entry)) ∷ []) (vec-items (now (out .entry))) (vec-items (now (out .exit)))) ⌝ }
 {
     let (name, _) = split_word(name_of(play));
@@ -67,7 +72,12 @@ fn push_page(heap: Global, out: &mut Vec<u8>, inverter: &[u8], play: &Play) -> R
     Ok(())
 }
 
-fn push_pages(heap: Global, out: &mut Vec<u8>, inverter: &[u8], plays: &[Play]) -> Result<(), AllocError>
+fn push_pages(
+    heap: Global,
+    out: &mut Vec<u8>,
+    inverter: &[u8],
+    plays: &[Play],
+) -> Result<(), AllocError>
     ensures { λ r. ⌜ made r (λ _. Extends (pageParts (now (inverter .entry)) (now (plays .entry))) (vec-items (now (out .entry))) (vec-items (now (out .exit)))) ⌝ }
 {
     for play in plays {
@@ -99,26 +109,26 @@ fn front_text(heap: Global) -> Result<Vec<u8>, AllocError> {
     Ok(out)
 }
 
-// What stands behind them.
+// What stands behind the plans.
 fn back_text(heap: Global) -> Result<Vec<u8>, AllocError> {
     let mut out = Vec::new(heap);
-    push_text(&mut out, PLANS)?;
-    push_plans(&mut out)?;
     push_counts(&mut out)?;
     push_text(&mut out, EXAMPLE)?;
     push_example(heap, &mut out)?;
     Ok(out)
 }
 
-// The text of the archive: it holds every page's listing, in order.
+// The text of the archive: it holds the listing of every page, and then every play of the three plans, in order.
 pub fn archive_text(heap: Global) -> Result<Vec<u8>, AllocError>
-    ensures { λ r. ⌜ made r (λ v. Holds everyPage (vec-items v)) ⌝ }
+    ensures { λ r. ⌜ made r (λ v. Holds (everyPage ++ everyPlay) (vec-items v)) ⌝ }
 {
     let front = front_text(heap)?;
     let back = back_text(heap)?;
     let mut out = Vec::new(heap);
     push_text(&mut out, front.as_slice())?;
     push_pages(heap, &mut out, &INVERT, &PAGES)?;
+    push_text(&mut out, PLANS)?;
+    push_plans(&mut out)?;
     push_text(&mut out, back.as_slice())?;
     Ok(out)
 }

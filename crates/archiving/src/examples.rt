@@ -10,6 +10,7 @@ use lane::read_bytes;
 use plans::pages::INVERT;
 use plans::plays::Play;
 use plans::runs::play_plan;
+use plans::tables::open_plan;
 use plans::tables::schedule_plan;
 use plans::tables::seal_plan;
 use std::alloc::AllocError;
@@ -20,7 +21,24 @@ use text::writes::push_text;
 
 const KEY: [u8; 16] = [0, 1, 2, 3, 4, 5, 6, 7, 8, 9, 10, 11, 12, 13, 14, 15];
 
-const BLOCK: [u8; 16] = [0x00, 0x11, 0x22, 0x33, 0x44, 0x55, 0x66, 0x77, 0x88, 0x99, 0xaa, 0xbb, 0xcc, 0xdd, 0xee, 0xff];
+const BLOCK: [u8; 16] = [
+    0x00,
+    0x11,
+    0x22,
+    0x33,
+    0x44,
+    0x55,
+    0x66,
+    0x77,
+    0x88,
+    0x99,
+    0xaa,
+    0xbb,
+    0xcc,
+    0xdd,
+    0xee,
+    0xff,
+];
 
 const ROOM: usize = 2048;
 
@@ -40,8 +58,7 @@ fn plain(coordinates: &[u8; 16]) -> [u8; 16] {
 }
 
 // Stage n of the sealing's plan.
-fn stage(n: usize) -> &'static [Play]
-{
+fn stage(n: usize) -> &'static [Play] {
     let plan = seal_plan();
     let (first, later) = plan.split_at(plan.len().min(32));
     if n == 0 {
@@ -81,13 +98,20 @@ fn stages<B: Bench>(bench: &mut B, block: &[u8; 16]) -> Result<[[u8; 16]; 11], F
 struct Worked {
     keys: [[u8; 16]; 11],
     states: [[u8; 16]; 11],
+    opened: [u8; 16],
 }
 
 fn play_example(words: &mut [u64]) -> Result<Worked, Fault> {
     let mut bench = WordBench::new(words, MOST_GATES);
     let keys = round_keys(&mut bench, &KEY)?;
     let states = stages(&mut bench, &BLOCK)?;
-    Ok(Worked { keys, states })
+    play_plan(&mut bench, &INVERT, open_plan())?;
+    let opened = shown(&bench, 0)?;
+    Ok(Worked {
+        keys,
+        states,
+        opened,
+    })
 }
 
 fn push_named(out: &mut Vec<u8>, name: &[u8], bytes: &[u8]) -> Result<(), AllocError> {
@@ -97,7 +121,12 @@ fn push_named(out: &mut Vec<u8>, name: &[u8], bytes: &[u8]) -> Result<(), AllocE
 }
 
 // A number, sixteen bytes as they stand, and the plain bytes.
-fn push_pair(out: &mut Vec<u8>, n: u64, shown: &[u8; 16], plain: &[u8; 16]) -> Result<(), AllocError> {
+fn push_pair(
+    out: &mut Vec<u8>,
+    n: u64,
+    shown: &[u8; 16],
+    plain: &[u8; 16],
+) -> Result<(), AllocError> {
     push_text(out, if n < 10 { b"   " } else { b"  " })?;
     push_number(out, n)?;
     push_text(out, b"  ")?;
@@ -107,7 +136,11 @@ fn push_pair(out: &mut Vec<u8>, n: u64, shown: &[u8; 16], plain: &[u8; 16]) -> R
     push_text(out, b"\n")
 }
 
-fn push_rows(out: &mut Vec<u8>, rows: &[[u8; 16]; 11], plain_first: bool) -> Result<(), AllocError> {
+fn push_rows(
+    out: &mut Vec<u8>,
+    rows: &[[u8; 16]; 11],
+    plain_first: bool,
+) -> Result<(), AllocError> {
     for n in 0..11usize {
         let row = &rows[n];
         if n == 10 || (plain_first && n == 0) {
@@ -122,12 +155,19 @@ fn push_rows(out: &mut Vec<u8>, rows: &[[u8; 16]; 11], plain_first: bool) -> Res
 fn push_worked(out: &mut Vec<u8>, worked: &Worked) -> Result<(), AllocError> {
     push_named(out, b"key           ", &KEY)?;
     push_named(out, b"block         ", &BLOCK)?;
-    push_text(out, b"\nRound key n after scheduling\n   n  as the registers show it          plain bytes\n")?;
+    push_text(
+        out,
+        b"\nRound key n after scheduling\n   n  as the registers show it          plain bytes\n",
+    )?;
     push_rows(out, &worked.keys, true)?;
-    push_text(out, b"\nState after stage n of sealing\n   n  as the registers show it          plain bytes\n")?;
+    push_text(
+        out,
+        b"\nState after stage n of sealing\n   n  as the registers show it          plain bytes\n",
+    )?;
     push_rows(out, &worked.states, false)?;
     push_text(out, b"\n")?;
-    push_named(out, b"sealed block  ", &worked.states[10])
+    push_named(out, b"sealed block  ", &worked.states[10])?;
+    push_named(out, b"opened again  ", &worked.opened)
 }
 
 pub(crate) fn push_example(heap: Global, out: &mut Vec<u8>) -> Result<(), AllocError> {

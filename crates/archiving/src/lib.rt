@@ -1,11 +1,11 @@
 // The archive: a text from which blocks can be recovered by hand, with every page, plan and number in it.
+pub mod archives;
+mod examples;
 mod gates;
-pub mod traces;
-mod names;
 mod lines;
 pub mod listings;
+mod names;
+mod planlists;
 mod prose;
 mod steps;
-mod planlists;
-mod examples;
-pub mod archives;
+pub mod traces;

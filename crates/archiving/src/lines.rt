@@ -6,9 +6,9 @@ ghost use lib.ListN.{getD};
 ghost use Rattle.std.specs.Of.Vec.{vec-items};
 ghost use Rattle.std.specs.Vec.{made};
 ghost use Rattle.archiving.specs.Lines.{spaces, padded, kindText, gateText, lowText, markText, maskLine, columnLine, basesText, playLine};
+use crate::names::name_of;
 use bench::gates::Gate;
 use bench::kinds::Kind;
-use crate::names::name_of;
 use plans::plays::Play;
 use std::alloc::AllocError;
 use text::writes::push_hex;
@@ -81,7 +81,14 @@ fn mark(blank: u64) -> &'static [u8]
 }
 
 // A gate, and which inputs its target then sums: those that turn it when they alone are 1.
-pub(crate) fn push_mask_line(out: &mut Vec<u8>, at: u64, gate: Gate, sockets: u16, word: u64, blank: u64) -> Result<(), AllocError>
+pub(crate) fn push_mask_line(
+    out: &mut Vec<u8>,
+    at: u64,
+    gate: Gate,
+    sockets: u16,
+    word: u64,
+    blank: u64,
+) -> Result<(), AllocError>
     requires { ⌜ sockets ≤ 8 ⌝ }
     ensures { λ r. ⌜ made r (λ _. vec-items (now (out .exit)) ≡ vec-items (now (out .entry)) ++ maskLine at gate sockets word blank) ⌝ }
 {
@@ -92,7 +99,15 @@ pub(crate) fn push_mask_line(out: &mut Vec<u8>, at: u64, gate: Gate, sockets: u1
 }
 
 // A gate, and its target's column, given by the words of its four quarters.
-pub(crate) fn push_column_line(out: &mut Vec<u8>, at: u64, gate: Gate, w0: u64, w1: u64, w2: u64, w3: u64) -> Result<(), AllocError>
+pub(crate) fn push_column_line(
+    out: &mut Vec<u8>,
+    at: u64,
+    gate: Gate,
+    w0: u64,
+    w1: u64,
+    w2: u64,
+    w3: u64,
+) -> Result<(), AllocError>
     ensures { λ r. ⌜ made r (λ _. vec-items (now (out .exit)) ≡ vec-items (now (out .entry)) ++ columnLine at gate w0 w1 w2 w3) ⌝ }
 {
     push_gate(out, at, gate)?;

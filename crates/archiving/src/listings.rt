@@ -7,13 +7,13 @@ ghost use Rattle.std.specs.Of.Vec.{vec-items};
 ghost use Rattle.std.specs.Vec.{made};
 ghost use Rattle.archiving.specs.Traces.{unitWord, unitWords, filled, inputWord, inputWords};
 ghost use Rattle.archiving.specs.Listings.{sums, onlySums, maskLines, columnLines, masksText, columnsText, sizesText, checksText, listedText, gatesText, playLines};
-use bench::gates::Gate;
-use bench::kinds::Kind;
 use crate::gates::list_gates;
 use crate::lines::push_column_line;
 use crate::lines::push_mask_line;
 use crate::lines::push_play;
 use crate::traces::do_gate;
+use bench::gates::Gate;
+use bench::kinds::Kind;
 use plans::plays::Play;
 use player::pages::Page;
 use std::alloc::AllocError;
@@ -96,7 +96,13 @@ fn input_words(heap: Global, quarter: u8, count: usize) -> Result<Vec<u64>, Allo
     Ok(words)
 }
 
-fn push_mask_lines(out: &mut Vec<u8>, gates: &[Gate], sockets: u16, units: &mut [u64], blanks: &mut [u64]) -> Result<(), AllocError>
+fn push_mask_lines(
+    out: &mut Vec<u8>,
+    gates: &[Gate],
+    sockets: u16,
+    units: &mut [u64],
+    blanks: &mut [u64],
+) -> Result<(), AllocError>
     requires { ⌜ sockets ≤ 8 ⌝ }
     ensures { λ r. ⌜ made r (λ _. vec-items (now (out .exit)) ≡ vec-items (now (out .entry)) ++ maskLines sockets 0 (now (units .entry)) (now (blanks .entry)) (now (gates .entry))) ⌝ }
 {
@@ -109,7 +115,14 @@ fn push_mask_lines(out: &mut Vec<u8>, gates: &[Gate], sockets: u16, units: &mut 
     Ok(())
 }
 
-fn push_column_lines(out: &mut Vec<u8>, gates: &[Gate], w0: &mut [u64], w1: &mut [u64], w2: &mut [u64], w3: &mut [u64]) -> Result<(), AllocError>
+fn push_column_lines(
+    out: &mut Vec<u8>,
+    gates: &[Gate],
+    w0: &mut [u64],
+    w1: &mut [u64],
+    w2: &mut [u64],
+    w3: &mut [u64],
+) -> Result<(), AllocError>
     ensures { λ r. ⌜ made r (λ _. vec-items (now (out .exit)) ≡ vec-items (now (out .entry)) ++ columnLines 0 (now (w0 .entry)) (now (w1 .entry)) (now (w2 .entry)) (now (w3 .entry)) (now (gates .entry))) ⌝ }
 {
     for i in 0..gates.len() {
@@ -123,17 +136,34 @@ fn push_column_lines(out: &mut Vec<u8>, gates: &[Gate], w0: &mut [u64], w1: &mut
     Ok(())
 }
 
-fn push_masks(heap: Global, out: &mut Vec<u8>, gates: &[Gate], sockets: u16, count: usize) -> Result<(), AllocError>
+fn push_masks(
+    heap: Global,
+    out: &mut Vec<u8>,
+    gates: &[Gate],
+    sockets: u16,
+    count: usize,
+) -> Result<(), AllocError>
     requires { ⌜ sockets ≤ 8 ⌝ }
     ensures { λ r. ⌜ made r (λ _. vec-items (now (out .exit)) ≡ vec-items (now (out .entry)) ++ masksText sockets count (now (gates .entry))) ⌝ }
 {
     let mut units = unit_words(heap, 8 * sockets as usize, count)?;
     let mut blanks = unit_words(heap, 0, count)?;
     push_text(out, b" gate  kind    t    a    b   mask\n")?;
-    push_mask_lines(out, gates, sockets, units.as_mut_slice(), blanks.as_mut_slice())
+    push_mask_lines(
+        out,
+        gates,
+        sockets,
+        units.as_mut_slice(),
+        blanks.as_mut_slice(),
+    )
 }
 
-fn push_columns(heap: Global, out: &mut Vec<u8>, gates: &[Gate], count: usize) -> Result<(), AllocError>
+fn push_columns(
+    heap: Global,
+    out: &mut Vec<u8>,
+    gates: &[Gate],
+    count: usize,
+) -> Result<(), AllocError>
     ensures { λ r. ⌜ made r (λ _. vec-items (now (out .exit)) ≡ vec-items (now (out .entry)) ++ columnsText count (now (gates .entry))) ⌝ }
 {
     let mut w0 = input_words(heap, 0, count)?;
@@ -141,7 +171,14 @@ fn push_columns(heap: Global, out: &mut Vec<u8>, gates: &[Gate], count: usize) -
     let mut w2 = input_words(heap, 2, count)?;
     let mut w3 = input_words(heap, 3, count)?;
     push_text(out, b" gate  kind    t    a    b   column\n")?;
-    push_column_lines(out, gates, w0.as_mut_slice(), w1.as_mut_slice(), w2.as_mut_slice(), w3.as_mut_slice())
+    push_column_lines(
+        out,
+        gates,
+        w0.as_mut_slice(),
+        w1.as_mut_slice(),
+        w2.as_mut_slice(),
+        w3.as_mut_slice(),
+    )
 }
 
 fn push_sizes(out: &mut Vec<u8>, gates: usize, sockets: u16, scratch: u16) -> Result<(), AllocError>
@@ -156,7 +193,13 @@ fn push_sizes(out: &mut Vec<u8>, gates: usize, sockets: u16, scratch: u16) -> Re
     push_text(out, b"\n")
 }
 
-fn push_checks(heap: Global, out: &mut Vec<u8>, gates: &[Gate], sockets: u16, scratch: u16) -> Result<(), AllocError>
+fn push_checks(
+    heap: Global,
+    out: &mut Vec<u8>,
+    gates: &[Gate],
+    sockets: u16,
+    scratch: u16,
+) -> Result<(), AllocError>
     ensures { λ r. ⌜ made r (λ _. vec-items (now (out .exit)) ≡ vec-items (now (out .entry)) ++ checksText sockets scratch (now (gates .entry))) ⌝ }
 {
     let count = 8 * sockets as usize + scratch as usize;
@@ -170,7 +213,14 @@ fn push_checks(heap: Global, out: &mut Vec<u8>, gates: &[Gate], sockets: u16, sc
     }
 }
 
-fn push_listed(heap: Global, out: &mut Vec<u8>, kinds: &[u8], places: &[u8], sockets: u16, scratch: u16) -> Result<(), AllocError>
+fn push_listed(
+    heap: Global,
+    out: &mut Vec<u8>,
+    kinds: &[u8],
+    places: &[u8],
+    sockets: u16,
+    scratch: u16,
+) -> Result<(), AllocError>
     requires { ⌜ length (now places) ≡ 6 * length (now kinds) ⌝ }
     ensures { λ r. ⌜ made r (λ _. vec-items (now (out .exit)) ≡ vec-items (now (out .entry)) ++ listedText (now (kinds .entry)) (now (places .entry)) sockets scratch) ⌝ }
 {
@@ -184,7 +234,14 @@ pub fn push_gates(heap: Global, out: &mut Vec<u8>, bytes: &[u8]) -> Result<(), A
     ensures { λ r. ⌜ made r (λ _. vec-items (now (out .exit)) ≡ vec-items (now (out .entry)) ++ gatesText (now (bytes .entry))) ⌝ }
 {
     match Page::read(bytes) {
-        Ok(page) => push_listed(heap, out, page.kinds, page.places, page.sockets, page.scratch),
+        Ok(page) => push_listed(
+            heap,
+            out,
+            page.kinds,
+            page.places,
+            page.sockets,
+            page.scratch,
+        ),
         Err(_) => push_text(out, b"These bytes are no whole page.\n"),
     }
 }

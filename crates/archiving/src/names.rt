@@ -61,25 +61,33 @@ pub(crate) fn name_of(play: &Play) -> &'static [u8]
 pub(crate) fn purpose_of(play: &Play) -> &'static [u8] {
     match play {
         Play::Add(_) => b"Adds the byte in socket 1 to the byte in socket 0.",
-        Play::Enter(_) => b"Takes the byte in socket 0 over from plain bits to coordinates, in its place.",
-        Play::Invert(_) => b"Puts the inverse of the byte in socket 0 into socket 1; both in coordinates; 00 gives 00.",
-        Play::Mix(_) => b"The affine rule and then MixColumns, in coordinates: column in sockets 0-3, result in 4-7.",
-        Play::Finish(_) => b"Does the affine rule to socket 0, in coordinates, and puts the plain byte into socket 1.",
+        Play::Enter(_) =>
+            b"Takes the byte in socket 0 over from plain bits to coordinates, in its place.",
+        Play::Invert(_) =>
+            b"Puts the inverse of the byte in socket 0 into socket 1; both in coordinates; 00 gives 00.",
+        Play::Mix(_) =>
+            b"The affine rule and then MixColumns, in coordinates: column in sockets 0-3, result in 4-7.",
+        Play::Finish(_) =>
+            b"Does the affine rule to socket 0, in coordinates, and puts the plain byte into socket 1.",
         Play::Copy(_) => b"Copies the byte in socket 0 to socket 1.",
-        Play::Affine(_) => b"Does the affine rule of SubBytes to the byte in socket 0, in coordinates, in its place.",
+        Play::Affine(_) =>
+            b"Does the affine rule of SubBytes to the byte in socket 0, in coordinates, in its place.",
         Play::Sum(_) => b"Adds the bytes in sockets 0 and 1 into socket 2.",
-        Play::Leave(_) => b"Takes the byte in socket 0 back from coordinates to plain bits, in its place.",
-        Play::Unaffine(_) => b"Undoes the affine rule of SubBytes on the byte in socket 0, in coordinates, in its place.",
-        Play::Unmix(_) => b"InvMixColumns, in coordinates: the column in sockets 0-3, the result in sockets 4-7.",
-        Play::Rcon1(_) => b"Adds round constant 1, 01, in coordinates to the byte in socket 0, in its place.",
-        Play::Rcon2(_) => b"Adds round constant 2, 02, in coordinates to the byte in socket 0, in its place.",
-        Play::Rcon3(_) => b"Adds round constant 3, 04, in coordinates to the byte in socket 0, in its place.",
-        Play::Rcon4(_) => b"Adds round constant 4, 08, in coordinates to the byte in socket 0, in its place.",
-        Play::Rcon5(_) => b"Adds round constant 5, 10, in coordinates to the byte in socket 0, in its place.",
-        Play::Rcon6(_) => b"Adds round constant 6, 20, in coordinates to the byte in socket 0, in its place.",
-        Play::Rcon7(_) => b"Adds round constant 7, 40, in coordinates to the byte in socket 0, in its place.",
-        Play::Rcon8(_) => b"Adds round constant 8, 80, in coordinates to the byte in socket 0, in its place.",
-        Play::Rcon9(_) => b"Adds round constant 9, 1b, in coordinates to the byte in socket 0, in its place.",
-        Play::Rcon10(_) => b"Adds round constant 10, 36, in coordinates to the byte in socket 0, in its place.",
+        Play::Leave(_) =>
+            b"Takes the byte in socket 0 back from coordinates to plain bits, in its place.",
+        Play::Unaffine(_) =>
+            b"Undoes the affine rule of SubBytes on the byte in socket 0, in coordinates, in its place.",
+        Play::Unmix(_) =>
+            b"InvMixColumns, in coordinates: the column in sockets 0-3, the result in sockets 4-7.",
+        Play::Rcon1(_) => b"Adds round constant 1, 01, to the byte in socket 0, in coordinates.",
+        Play::Rcon2(_) => b"Adds round constant 2, 02, to the byte in socket 0, in coordinates.",
+        Play::Rcon3(_) => b"Adds round constant 3, 04, to the byte in socket 0, in coordinates.",
+        Play::Rcon4(_) => b"Adds round constant 4, 08, to the byte in socket 0, in coordinates.",
+        Play::Rcon5(_) => b"Adds round constant 5, 10, to the byte in socket 0, in coordinates.",
+        Play::Rcon6(_) => b"Adds round constant 6, 20, to the byte in socket 0, in coordinates.",
+        Play::Rcon7(_) => b"Adds round constant 7, 40, to the byte in socket 0, in coordinates.",
+        Play::Rcon8(_) => b"Adds round constant 8, 80, to the byte in socket 0, in coordinates.",
+        Play::Rcon9(_) => b"Adds round constant 9, 1b, to the byte in socket 0, in coordinates.",
+        Play::Rcon10(_) => b"Adds round constant 10, 36, to the byte in socket 0, in coordinates.",
     }
 }

@@ -1,4 +1,10 @@
 // Section 4: the three plans, step by step.
+ghost use mathlib.Core.List.{[]};
+ghost use Prim.Native.Nat.{ℕ, _≤_};
+ghost use lib.ListN.{length};
+ghost use Rattle.std.specs.Of.Vec.{vec-items};
+ghost use Rattle.std.specs.Vec.{made};
+ghost use Rattle.archiving.specs.Parts.{Extends, Reached, linesOf, everyPlay};
 use crate::listings::push_plays;
 use crate::prose::OPENING;
 use crate::prose::SCHEDULING;
@@ -27,7 +33,15 @@ pub(crate) struct Step {
 }
 
 // The plays of the steps from index `from` on, and the index that follows.
-fn push_steps(out: &mut Vec<u8>, plan: &[Play], from: usize, steps: &[Step]) -> Result<usize, AllocError> {
+fn push_steps(
+    out: &mut Vec<u8>,
+    plan: &[Play],
+    from: usize,
+    steps: &[Step],
+) -> Result<usize, AllocError>
+    requires { ⌜ from ≤ length (now plan) ⌝ }
+    ensures { λ r. ⌜ made r (λ e. Reached (now (plan .entry)) from (vec-items (now (out .entry))) (vec-items (now (out .exit))) e) ⌝ }
+{
     let mut at = from;
     for step in steps {
         let end = at.saturating_add(step.count).min(plan.len());
@@ -39,42 +53,73 @@ fn push_steps(out: &mut Vec<u8>, plan: &[Play], from: usize, steps: &[Step]) -> 
     Ok(at)
 }
 
-fn push_head(out: &mut Vec<u8>, what: &[u8], n: u64) -> Result<(), AllocError> {
+fn push_head(out: &mut Vec<u8>, what: &[u8], n: u64) -> Result<(), AllocError>
+    ensures { λ r. ⌜ made r (λ _. Extends [] (vec-items (now (out .entry))) (vec-items (now (out .exit)))) ⌝ }
+{
     push_text(out, b"\n")?;
     push_text(out, what)?;
     push_number(out, n)?;
-    push_text(out, b"\n")
+    push_text(out, b"\n")?;
+    Ok(())
+}
+
+// The steps for each number from `low` up to `high`, under a heading.
+fn push_groups(
+    out: &mut Vec<u8>,
+    plan: &[Play],
+    from: usize,
+    what: &[u8],
+    low: u64,
+    high: u64,
+    steps: &[Step],
+) -> Result<usize, AllocError>
+    requires { ⌜ from ≤ length (now plan) ⌝ }
+    ensures { λ r. ⌜ made r (λ e. Reached (now (plan .entry)) from (vec-items (now (out .entry))) (vec-items (now (out .exit))) e) ⌝ }
+{
+    let mut at = from;
+    for n in low..high {
+        push_head(out, what, n)?;
+        at = push_steps(out, plan, at, steps)?;
+    }
+    Ok(at)
 }
 
 // A plan of a first stage, nine rounds and a last stage; what these leave over would follow.
-fn push_rounds(out: &mut Vec<u8>, plan: &[Play], first: &[Step], round: &[Step], last: &[Step]) -> Result<(), AllocError> {
-    push_head(out, b"Stage ", 0)?;
-    let mut at = push_steps(out, plan, 0, first)?;
-    for n in 1..10u64 {
-        push_head(out, b"Stage ", n)?;
-        at = push_steps(out, plan, at, round)?;
-    }
-    push_head(out, b"Stage ", 10)?;
-    at = push_steps(out, plan, at, last)?;
-    push_plays(out, plan, at)
+fn push_rounds(
+    out: &mut Vec<u8>,
+    plan: &[Play],
+    first: &[Step],
+    round: &[Step],
+    last: &[Step],
+) -> Result<(), AllocError>
+    ensures { λ r. ⌜ made r (λ _. Extends (linesOf 0 (now (plan .entry))) (vec-items (now (out .entry))) (vec-items (now (out .exit)))) ⌝ }
+{
+    let a = push_groups(out, plan, 0, b"Stage ", 0, 1, first)?;
+    let b = push_groups(out, plan, a, b"Stage ", 1, 10, round)?;
+    let c = push_groups(out, plan, b, b"Stage ", 10, 11, last)?;
+    push_plays(out, plan, c)?;
+    Ok(())
 }
 
-fn push_schedule(out: &mut Vec<u8>, plan: &[Play]) -> Result<(), AllocError> {
-    push_head(out, b"Round key ", 0)?;
-    let mut at = push_steps(out, plan, 0, &SCHEDULE_START)?;
-    for n in 1..11u64 {
-        push_head(out, b"Round key ", n)?;
-        at = push_steps(out, plan, at, &SCHEDULE_KEY)?;
-    }
-    at = push_steps(out, plan, at, &SCHEDULE_END)?;
-    push_plays(out, plan, at)
+fn push_schedule(out: &mut Vec<u8>, plan: &[Play]) -> Result<(), AllocError>
+    ensures { λ r. ⌜ made r (λ _. Extends (linesOf 0 (now (plan .entry))) (vec-items (now (out .entry))) (vec-items (now (out .exit)))) ⌝ }
+{
+    let a = push_groups(out, plan, 0, b"Round key ", 0, 1, &SCHEDULE_START)?;
+    let b = push_groups(out, plan, a, b"Round key ", 1, 11, &SCHEDULE_KEY)?;
+    let c = push_steps(out, plan, b, &SCHEDULE_END)?;
+    push_plays(out, plan, c)?;
+    Ok(())
 }
 
-pub(crate) fn push_plans(out: &mut Vec<u8>) -> Result<(), AllocError> {
+// The three plans, play by play.
+pub(crate) fn push_plans(out: &mut Vec<u8>) -> Result<(), AllocError>
+    ensures { λ r. ⌜ made r (λ _. Extends everyPlay (vec-items (now (out .entry))) (vec-items (now (out .exit)))) ⌝ }
+{
     push_text(out, SCHEDULING)?;
     push_schedule(out, schedule_plan())?;
     push_text(out, SEALING)?;
     push_rounds(out, seal_plan(), &SEAL_FIRST, &SEAL_ROUND, &SEAL_LAST)?;
     push_text(out, OPENING)?;
-    push_rounds(out, open_plan(), &OPEN_FIRST, &OPEN_ROUND, &OPEN_LAST)
+    push_rounds(out, open_plan(), &OPEN_FIRST, &OPEN_ROUND, &OPEN_LAST)?;
+    Ok(())
 }

@@ -84,12 +84,10 @@ pub(crate) const SCHEDULE_KEY: [Step; 7] = [
     },
 ];
 
-pub(crate) const SCHEDULE_END: [Step; 1] = [
-    Step {
-        what: b"Round key 10 goes back to plain bytes.\nLine j: LEAVE, 1408 + 8*j, 1728.\n",
-        count: 16,
-    },
-];
+pub(crate) const SCHEDULE_END: [Step; 1] = [Step {
+    what: b"Round key 10 goes back to plain bytes.\nLine j: LEAVE, 1408 + 8*j, 1728.\n",
+    count: 16,
+}];
 
 pub(crate) const OPEN_FIRST: [Step; 2] = [
     Step {

@@ -37,7 +37,11 @@ pub fn do_gate(words: &mut [u64], gate: Gate) -> u64
     ensures leaves { λ _. ⌜ now (words .exit) ≡ stepped gate (now (words .entry)) ⌝ }
     ensures cases { λ r. ⌜ ((l : ℕ) → l < 64 → testBit r l ≡ result (gate .kind) (testBit (getD (now (words .entry)) (gate .first) 0) l) (testBit (getD (now (words .entry)) (gate .second) 0) l)) ⌝ }
 {
-    let word = combine(gate.kind, word_at(words, gate.first), word_at(words, gate.second));
+    let word = combine(
+        gate.kind,
+        word_at(words, gate.first),
+        word_at(words, gate.second),
+    );
     if (gate.target as usize) < words.len() {
         words[gate.target as usize] = word;
     }

@@ -19,6 +19,6 @@ returns c =
     let part = pagePart (c .args .inverter .now) (c .args .play .now) in
     let last = extends-part v5 v6 part (c .in-Continue-push-gates .ensures tt ∙ ap (λ l. v5 ++ gatesText l) (c .page .ensures)) in
     extends-from (part ∷ []) v0 v1 v6 _ (c .in-Continue-push-text .ensures tt)
-      (extends-from (part ∷ []) v1 v2 v6 _ (c .in-Continue-push-text-2 .ensures tt)
-        (extends-from (part ∷ []) v2 v3 v6 _ (c .in-Continue-push-text-3 .ensures tt)
-          (extends-from (part ∷ []) v3 v4 v6 _ (c .in-Continue-push-text-4 .ensures tt) (extends-from (part ∷ []) v4 v5 v6 _ (c .in-Continue-push-text-5 .ensures tt) last))))
+    (extends-from (part ∷ []) v1 v2 v6 _ (c .in-Continue-push-text-2 .ensures tt)
+    (extends-from (part ∷ []) v2 v3 v6 _ (c .in-Continue-push-text-3 .ensures tt)
+    (extends-from (part ∷ []) v3 v4 v6 _ (c .in-Continue-push-text-4 .ensures tt) (extends-from (part ∷ []) v4 v5 v6 _ (c .in-Continue-push-text-5 .ensures tt) last))))

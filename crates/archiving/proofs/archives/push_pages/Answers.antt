@@ -8,7 +8,7 @@ loop-play-holds c = extends-none (vec-items (c .args .out .now))
 pub loop-play-again : need.loop-play-again
 loop-play-again c =
     page-more (c .args .inverter .now) (c .args .plays .now) (c .loop-play .play-index) _ (vec-items (c .args .out .now)) (vec-items (c .loop-play .out)) (vec-items (c .push-page .last .out))
-      (c .loop-play-test .taken) (c .loop-play .inv) (c .in-Continue-push-page .ensures tt)
+    (c .loop-play-test .taken) (c .loop-play .inv) (c .in-Continue-push-page .ensures tt)
 
 pub returns : need.returns
 returns c =

@@ -13,7 +13,7 @@ returns-then-sockets-gt8 c =
     let n = c .args .scratch in
     let gs = c .args .gates .now in
     pushed-as (c .push-columns .result) (vec-items (c .args .out .now)) (columnsText (8 * q + n) gs) (checksText q n gs) (vec-items (c .push-columns .last .out))
-      (many-sockets q n gs (c .if-sockets-gt8 .taken)) (c .push-columns .ensures)
+    (many-sockets q n gs (c .if-sockets-gt8 .taken)) (c .push-columns .ensures)
 
 pub returns-then-only-sums : need.returns-then-only-sums
 returns-then-only-sums c =
@@ -21,7 +21,7 @@ returns-then-only-sums c =
     let n = c .args .scratch in
     let gs = c .args .gates .now in
     pushed-as (c .push-masks .result) (vec-items (c .args .out .now)) (masksText q (8 * q + n) gs) (checksText q n gs) (vec-items (c .push-masks .last .out))
-      (by-masks q n gs (omega arith) (sym (c .only-sums .ensures) ∙ c .if-only-sums .taken)) (c .push-masks .ensures)
+    (by-masks q n gs (omega arith) (sym (c .only-sums .ensures) ∙ c .if-only-sums .taken)) (c .push-masks .ensures)
 
 pub returns-else-only-sums : need.returns-else-only-sums
 returns-else-only-sums c =
@@ -29,4 +29,4 @@ returns-else-only-sums c =
     let n = c .args .scratch in
     let gs = c .args .gates .now in
     pushed-as (c .push-columns-else-only-sums .result) (vec-items (c .args .out .now)) (columnsText (8 * q + n) gs) (checksText q n gs) (vec-items (c .push-columns-else-only-sums .last .out))
-      (by-columns q n gs (sym (c .only-sums .ensures) ∙ c .if-only-sums .left)) (c .push-columns-else-only-sums .ensures)
+    (by-columns q n gs (sym (c .only-sums .ensures) ∙ c .if-only-sums .left)) (c .push-columns-else-only-sums .ensures)

@@ -20,4 +20,4 @@ returns c =
     let all = vec-items (c .push-column-lines .last .out) in
     let lines = columnLines 0 (inputWords 0 n) (inputWords 1 n) (inputWords 2 n) (inputWords 3 n) gs in
     last-pushed (c .push-column-lines .result) s (codes " gate  kind    t    a    b   column\n") lines all (c .in-Continue-push-text .ensures tt)
-      (pushed-as (c .push-column-lines .result) (vec-items (c .push-text .last .out)) (columnLines 0 v0 v1 v2 v3 gs) lines all same (c .push-column-lines .ensures))
+    (pushed-as (c .push-column-lines .result) (vec-items (c .push-text .last .out)) (columnLines 0 v0 v1 v2 v3 gs) lines all same (c .push-column-lines .ensures))

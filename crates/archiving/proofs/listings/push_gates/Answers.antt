@@ -17,9 +17,9 @@ returns-in-Ok c =
     let p = c .in-Ok .page in
     let h = c .in-Ok .ensures tt in
     pushed-as (c .push-listed .result) (vec-items (c .args .out .now)) (listedText (p .kinds .now) (p .places .now) (p .sockets) (p .scratch)) (gatesText (c .args .bytes .now)) (vec-items (c .push-listed .last .out))
-      (listed-whole (c .args .bytes .now) (p .sockets) (p .scratch) (p .kinds .now) (p .places .now) (h .0) (h .1)) (c .push-listed .ensures)
+    (listed-whole (c .args .bytes .now) (p .sockets) (p .scratch) (p .kinds .now) (p .places .now) (h .0) (h .1)) (c .push-listed .ensures)
 
 pub returns-in-Err : need.returns-in-Err
 returns-in-Err c =
     pushed-as (c .push-text .result) (vec-items (c .args .out .now)) (codes "These bytes are no whole page.\n") (gatesText (c .args .bytes .now)) (vec-items (c .push-text .last .out))
-      (listed-not (c .args .bytes .now) (c .in-Err .ensures tt .0)) (c .push-text .ensures)
+    (listed-not (c .args .bytes .now) (c .in-Err .ensures tt .0)) (c .push-text .ensures)

@@ -18,4 +18,4 @@ returns c =
     let all = vec-items (c .push-checks .last .out) in
     let same = ap (λ x. checksText q n x) (c .as-slice .ensures .value ∙ c .in-Continue-gates .ensures tt) in
     last-pushed (c .push-checks .result) s (sizesText (length kinds) q n) (checksText q n gs) all (c .in-Continue-push-sizes .ensures tt)
-      (pushed-as (c .push-checks .result) (vec-items (c .push-sizes .last .out)) (checksText q n (c .as-slice .result .now)) (checksText q n gs) all same (c .push-checks .ensures))
+    (pushed-as (c .push-checks .result) (vec-items (c .push-sizes .last .out)) (checksText q n (c .as-slice .result .now)) (checksText q n gs) all same (c .push-checks .ensures))
