@@ -4,10 +4,10 @@ pub(crate) const TITLE: &[u8] = b"ARCHIVE OF AN AES-128 LANE CIPHER UNIT
 
 This text is enough to recover a block of sixteen bytes that was sealed by this unit, if the key is
 known: by hand, by any computer, or by any machine that can do the six gates of section 1. The
-sealed bytes are plain AES-128 as in FIPS 197, one block at a time, with no chaining and no padding.
-So whoever has FIPS 197 can also use its inverse cipher (InvCipher after KeyExpansion, Nk = 4,
-Nr = 10), and needs nothing else of this text. The text is for those who want to repeat exactly what
-the unit did, or who have the unit's pages and plans on paper and no other AES.
+sealed bytes are plain AES-128 as in FIPS 197, each block for itself; how a longer message was cut
+into blocks, or chained, is no part of the unit. So whoever has FIPS 197 can also use its inverse
+cipher (InvCipher after KeyExpansion, Nk = 4, Nr = 10), and needs nothing else of this text. The
+rest is for those who want to repeat exactly what the unit did, or who have no other AES at hand.
 
 Sections: 1 Words. 2 Coordinates. 3 Pages. 4 Plans. 5 Counts. 6 An example.
 
@@ -83,8 +83,9 @@ How to open a sealed block with this text, where the key and the sealed block ar
   4. Write the sealed block: register 8*j + i shows bit i of its byte j.
   5. Do the plan \"opening\" of section 4 in the same way.
   6. Read the block: bit i of its byte j is what register 8*j + i shows.
-To seal, do the plan \"sealing\" in step 5. Scheduling is done once for a key; sealing and opening
-leave all round keys as they are. Or use FIPS 197 alone: the result is the same.
+To seal, write the plain block in step 4 and do the plan \"sealing\" in step 5. Scheduling is done
+once for a key; sealing and opening leave all round keys as they are. Or use FIPS 197 alone: the
+result is the same.
 
 ";
 
