@@ -8,7 +8,7 @@ use bench::gates::Gate;
 use bench::kinds::Kind;
 
 fn combine(kind: Kind, x: u64, y: u64) -> u64
-    ensures None{ result ≡ combined kind x y }
+    ensures { result ≡ combined kind x y }
 {
     match kind {
         Kind::Xor => x ^ y,
@@ -21,7 +21,7 @@ fn combine(kind: Kind, x: u64, y: u64) -> u64
 }
 
 fn word_at(words: &[u64], number: u16) -> u64
-    ensures None{ result ≡ slice_index words.now number }
+    ensures { result ≡ slice_index words.now number }
 {
     if (number as usize) < words.len() {
         words[number as usize]

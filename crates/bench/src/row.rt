@@ -39,7 +39,7 @@ impl<'a> RowBench<'a> {
 
     // A bench of no bytes, to stand in a bench's place while that is held elsewhere.
     pub fn idle() -> RowBench<'a>
-        ensures None{ row_model result.bytes.now result.width result.left ≡ row_model [] 0 0 }
+        ensures { row_model result.bytes.now result.width result.left ≡ row_model [] 0 0 }
     {
         RowBench {
             bytes: &mut [],
@@ -62,7 +62,7 @@ impl<'a> RowBench<'a> {
     }
 
     fn row(&self) -> usize
-        ensures None{ result ≡ fit self.now.width }
+        ensures { result ≡ fit self.now.width }
     {
         if self.width > MOST_WIDTH {
             0
@@ -72,7 +72,7 @@ impl<'a> RowBench<'a> {
     }
 
     fn rows(&self) -> usize
-        ensures None{ result ≡ row_lanes (length self.now.bytes.now) (fit self.now.width) }
+        ensures { result ≡ row_lanes (length self.now.bytes.now) (fit self.now.width) }
     {
         let row = self.row();
         if row == 0 {
@@ -84,7 +84,7 @@ impl<'a> RowBench<'a> {
 }
 
 fn outcome(kind: Kind, x: bool, y: bool) -> bool
-    ensures None{ result ≡ gate_result kind x y }
+    ensures { result ≡ gate_result kind x y }
 {
     match kind {
         Kind::Xor => x != y,
@@ -98,7 +98,7 @@ fn outcome(kind: Kind, x: bool, y: bool) -> bool
 
 fn put_byte(byte: u8, at: u16, bit: bool) -> u8
     requires { at < 8 }
-    ensures None{ result ≡ put_byte byte at bit }
+    ensures { result ≡ put_byte byte at bit }
 {
     if bit {
         byte | (1u8 << at)
@@ -109,7 +109,7 @@ fn put_byte(byte: u8, at: u16, bit: bool) -> u8
 
 fn test_byte(byte: u8, at: u16) -> bool
     requires { at < 8 }
-    ensures None{ result ≡ test_bit byte at }
+    ensures { result ≡ test_bit byte at }
 {
     (byte >> at) & 1 == 1
 }
@@ -117,7 +117,7 @@ fn test_byte(byte: u8, at: u16) -> bool
 // One gate in the row that begins at `base`.
 fn gate_row(bytes: &mut [u8], base: usize, kind: Kind, target: u16, a: u16, b: u16)
     requires { (base + target / 8 < length bytes.old) × ((base + a / 8 < length bytes.old) × (base + b / 8 < length bytes.old)) }
-    ensures None{ bytes.new ≡ row_step kind target a b base bytes.old }
+    ensures { bytes.new ≡ row_step kind target a b base bytes.old }
 {
     let x = test_byte(bytes[base + (a / 8) as usize], a % 8);
     let y = test_byte(bytes[base + (b / 8) as usize], b % 8);
@@ -128,7 +128,7 @@ fn gate_row(bytes: &mut [u8], base: usize, kind: Kind, target: u16, a: u16, b: u
 // One gate in each of the first rows.
 fn gate_rows(bytes: &mut [u8], row: usize, rows: usize, kind: Kind, target: u16, a: u16, b: u16)
     requires { (rows * row ≤ length bytes.old) × ((target / 8 < row) × ((a / 8 < row) × (b / 8 < row))) }
-    ensures None{ bytes.new ≡ rows_done kind target a b row rows bytes.old }
+    ensures { bytes.new ≡ rows_done kind target a b row rows bytes.old }
 {
     for lane in 0..rows {
         gate_row(bytes, lane * row, kind, target, a, b);
@@ -138,7 +138,7 @@ fn gate_rows(bytes: &mut [u8], row: usize, rows: usize, kind: Kind, target: u16,
 // Where the byte of a register lies in a lane.
 fn place(row: usize, register: u16, lane: u16) -> usize
     requires { lane * row + register / 8 < 2 ^ 64 }
-    ensures None{ result ≡ lane * row + register / 8 }
+    ensures { result ≡ lane * row + register / 8 }
 {
     lane as usize * row + (register / 8) as usize
 }
