@@ -12,12 +12,12 @@ overflow-mul-byte g c =
 pub overflow-add-byte : goal.overflow-add-byte
 overflow-add-byte g c =
     let f : ℕ → Bool = λ i. (g.B.Bench.shows c.args.bench.now).bit (c.args.base + i) c.args.lane in
-    omega (arith, c.loop-i.invariant, upper_lt f c.loop-i.i (omega arith), byte_small c.bit-at.result)
+    omega (arith, c.loop-i.invariant, upper_lt f c.loop-i.i (omega arith), byte_small c.bit_at.result)
 
 pub loop-i-preserved : goal.loop-i-preserved
 loop-i-preserved g c =
     let f : ℕ → Bool = λ i. (g.B.Bench.shows c.args.bench.now).bit (c.args.base + i) c.args.lane in
-    ap₂ (λ x b. 2 * x + bool_byte b) c.loop-i.invariant c.bit-at.ensures ∙ upper_more f c.loop-i.i (omega arith) (omega arith)
+    ap₂ (λ x b. 2 * x + bool_byte b) c.loop-i.invariant c.bit_at.ensures ∙ upper_more f c.loop-i.i (omega arith) (omega arith)
 
 pub returns : goal.returns
 unfolding byte_of

@@ -8,8 +8,8 @@ pub loop-register-init : goal.loop-register-init
 loop-register-init g c =
     (laid_none 0 c.args.lane (λ i. false) (told g.B.Bench.registers g.B.Bench.lanes g.B.Bench.left g.B.Bench.shows c.args.bench.now), refl)
 
-pub returns-in-err-set : goal.returns-in-err-set
-returns-in-err-set g c =
+pub returns-in_err-set : goal.returns-in_err-set
+returns-in_err-set g c =
     let meaning = told g.B.Bench.registers g.B.Bench.lanes g.B.Bench.left g.B.Bench.shows in
     let m = meaning c.args.bench.now in
     let n = meaning c.loop-register.bench in
@@ -18,7 +18,7 @@ returns-in-err-set g c =
     let rs : n.registers ≡ m.registers = laid_registers 0 l (λ i. false) i m c.loop-register.invariant.0 in
     let ls : n.lanes ≡ m.lanes = laid_lanes 0 l (λ i. false) i m c.loop-register.invariant.0 in
     let ok : set_answer n i l ≡ Ok tt = set_accepted n i l (omega arith) (omega arith) in
-    let said = c.in-err-set.ensures.answer in
+    let said = c.in_err-set.ensures.answer in
     absurd (never (said ∙ ok))
 
 pub loop-register-preserved : goal.loop-register-preserved
@@ -26,7 +26,7 @@ loop-register-preserved g c =
     let m = told g.B.Bench.registers g.B.Bench.lanes g.B.Bench.left g.B.Bench.shows c.args.bench.now in
     let i = c.loop-register.register in
     let l = c.args.lane in
-    let done = c.in-ok-set.ensures in
+    let done = c.in_ok-set.ensures in
     let at : i ≡ 0 + i = omega arith in
     let x = g.B.Bench.beneath c.args.bench.now in (
       done.leaves ∙ ap₂ (λ k n. written k l false n) at c.loop-register.invariant.0 ∙ laid_more 0 l (λ i. false) i m,

@@ -9,8 +9,8 @@ pub loop-i-init : goal.loop-i-init
 loop-i-init g c =
     (laid_none c.args.base c.args.lane (bits_of c.args.bytes.now) (told g.B.Bench.registers g.B.Bench.lanes g.B.Bench.left g.B.Bench.shows c.args.bench.now), refl)
 
-pub returns-in-err-set : goal.returns-in-err-set
-returns-in-err-set g c =
+pub returns-in_err-set : goal.returns-in_err-set
+returns-in_err-set g c =
     let meaning = told g.B.Bench.registers g.B.Bench.lanes g.B.Bench.left g.B.Bench.shows in
     let m = meaning c.args.bench.now in
     let n = meaning c.loop-i.bench in
@@ -20,7 +20,7 @@ returns-in-err-set g c =
     let rs : n.registers ≡ m.registers = laid_registers c.args.base l f i m c.loop-i.invariant.0 in
     let ls : n.lanes ≡ m.lanes = laid_lanes c.args.base l f i m c.loop-i.invariant.0 in
     let ok : set_answer n (c.args.base + i) l ≡ Ok tt = set_accepted n (c.args.base + i) l (omega arith) (omega arith) in
-    let said = c.in-err-set.ensures.answer in
+    let said = c.in_err-set.ensures.answer in
     absurd (never (said ∙ ok))
 
 pub loop-i-preserved : goal.loop-i-preserved
@@ -29,7 +29,7 @@ loop-i-preserved g c =
     let i = c.loop-i.i in
     let l = c.args.lane in
     let f = bits_of c.args.bytes.now in
-    let done = c.in-ok-set.ensures in (
-      done.leaves ∙ ap₂ (written (c.args.base + i) l) c.bit-of.ensures c.loop-i.invariant.0 ∙ laid_more c.args.base l f i m,
-      done.beneath ∙ ap₂ (written_in (c.args.base + i) l) c.bit-of.ensures c.loop-i.invariant.1 ∙ laid_in_more c.args.base l f i (g.B.Bench.beneath c.args.bench.now),
+    let done = c.in_ok-set.ensures in (
+      done.leaves ∙ ap₂ (written (c.args.base + i) l) c.bit_of.ensures c.loop-i.invariant.0 ∙ laid_more c.args.base l f i m,
+      done.beneath ∙ ap₂ (written_in (c.args.base + i) l) c.bit_of.ensures c.loop-i.invariant.1 ∙ laid_in_more c.args.base l f i (g.B.Bench.beneath c.args.bench.now),
     )

@@ -8,8 +8,8 @@ use Rattle.archiving.proofs.gates.list_gates.Goals as goal
 pub loop-i-preserved : goal.loop-i-preserved
 loop-i-preserved c =
     let f = gate_at c.args.kinds.now c.args.places.now in
-    c.in-ok-push.ensures.items
-    ∙ ap₂ (λ (h : List Gate) (x : Gate). h ++ (x ∷ [])) c.loop-i.invariant c.gate-at.ensures
+    c.in_ok-push.ensures.items
+    ∙ ap₂ (λ (h : List Gate) (x : Gate). h ++ (x ∷ [])) c.loop-i.invariant c.gate_at.ensures
     ∙ sym (map-range_with_len_more f 0 c.loop-i.i c.loop-i.i (omega arith))
 
 pub returns : goal.returns

@@ -10,7 +10,7 @@ loop-base-preserved c =
     let had = vec_items c.loop-base.out in
     let more = bases_text (drop (i + 1) xs) in
     let one : bases_text (drop i xs) ≡ padded (get_or xs i 0) ++ more = at_drop_more bases_text xs i 0 c.loop-base-test.true in
-    ap (λ l. l ++ more) c.in-ok-push-padded.ensures ∙ append_assoc had (padded (get_or xs i 0)) more ∙ ap (λ l. had ++ l) (sym one) ∙ c.loop-base.invariant
+    ap (λ l. l ++ more) c.in_ok-push_padded.ensures ∙ append_assoc had (padded (get_or xs i 0)) more ∙ ap (λ l. had ++ l) (sym one) ∙ c.loop-base.invariant
 
 pub returns : goal.returns
 returns c =

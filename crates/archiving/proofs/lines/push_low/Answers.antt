@@ -10,7 +10,7 @@ loop-j-preserved c =
     let k = c.loop-j.j in
     let had = vec_items c.loop-j.out in
     let one = hex_text ((w / 2 ^ (8 * (k - 1)) % 256) ∷ []) in
-    ap (λ l. l ++ low_text w (k - 1)) c.in-ok-push-hex.ensures
+    ap (λ l. l ++ low_text w (k - 1)) c.in_ok-push_hex.ensures
     ∙ append_assoc had one (low_text w (k - 1))
     ∙ ap (λ l. had ++ l) (sym (low_more w k (omega arith)))
     ∙ c.loop-j.invariant

@@ -9,5 +9,5 @@ unfolding padded
 returns c =
     let s = vec_items c.args.out.now in
     let x1 = spaces c.args.n in
-    let p1 = c.in-ok-push-text.ensures ∙ ap (λ l. s ++ l) c.spaces-before.ensures in
-    last_pushed c.push-number.result s x1 (decimal c.args.n) (vec_items c.push-number.new.out) p1 c.push-number.ensures.appends
+    let p1 = c.in_ok-push_text.ensures ∙ ap (λ l. s ++ l) c.spaces_before.ensures in
+    last_pushed c.push_number.result s x1 (decimal c.args.n) (vec_items c.push_number.new.out) p1 c.push_number.ensures.appends

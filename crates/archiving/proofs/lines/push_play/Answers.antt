@@ -9,11 +9,11 @@ unfolding play_line
 returns c =
     let s = vec_items c.args.out.now in
     let x1 = padded c.args.at in
-    let p1 = c.in-ok-push-padded.ensures in
-    let p2 = pushed s x1 (codes "  ") p1 c.in-ok-push-text.ensures in
+    let p1 = c.in_ok-push_padded.ensures in
+    let p2 = pushed s x1 (codes "  ") p1 c.in_ok-push_text.ensures in
     let x2 = x1 ++ codes "  " in
-    let p3 = pushed s x2 (name_text c.args.play.now) p2 (c.in-ok-push-text-2.ensures ∙ ap (λ l. vec_items c.push-text.new.out ++ l) c.name-of.ensures) in
+    let p3 = pushed s x2 (name_text c.args.play.now) p2 (c.in_ok-push_text-2.ensures ∙ ap (λ l. vec_items c.push_text.new.out ++ l) c.name_of.ensures) in
     let x3 = x2 ++ name_text c.args.play.now in
-    let p4 = pushed s x3 (bases_text (bases_of c.args.play.now)) p3 (c.in-ok-push-bases.ensures ∙ ap (λ l. vec_items c.push-text-2.new.out ++ bases_text l) c.bases.ensures) in
+    let p4 = pushed s x3 (bases_text (bases_of c.args.play.now)) p3 (c.in_ok-push_bases.ensures ∙ ap (λ l. vec_items c.push_text-2.new.out ++ bases_text l) c.bases.ensures) in
     let x4 = x3 ++ bases_text (bases_of c.args.play.now) in
-    last_pushed c.push-text-3.result s x4 (10 ∷ []) (vec_items c.push-text-3.new.out) p4 c.push-text-3.ensures
+    last_pushed c.push_text-3.result s x4 (10 ∷ []) (vec_items c.push_text-3.new.out) p4 c.push_text-3.ensures

@@ -6,8 +6,8 @@ use Rattle.archiving.proofs.listings.input_words.Goals as goal
 
 pub loop-n-preserved : goal.loop-n-preserved
 loop-n-preserved c =
-    c.in-ok-push.ensures.items
-    ∙ ap₂ (λ (h : List ℕ) (x : ℕ). h ++ (x ∷ [])) c.loop-n.invariant c.input-word.ensures
+    c.in_ok-push.ensures.items
+    ∙ ap₂ (λ (h : List ℕ) (x : ℕ). h ++ (x ∷ [])) c.loop-n.invariant c.input_word.ensures
     ∙ sym (map-range_with_len_more (input_word c.args.quarter) 0 c.loop-n.n c.loop-n.n (omega arith))
 
 pub returns : goal.returns

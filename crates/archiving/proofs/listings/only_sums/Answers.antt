@@ -13,13 +13,13 @@ pub loop-gate-preserved : goal.loop-gate-preserved
 loop-gate-preserved c =
     let gs = c.args.gates.now in
     let i = c.loop-gate.gate-index in
-    sym (first_yes (get_or gs i blank) (drop (i + 1) gs) (sym c.is-sum.ensures ∙ c.if-not-is-sum.false)) ∙ sym (at_drop_more only_sums gs i blank c.loop-gate-test.true) ∙ c.loop-gate.invariant
+    sym (first_yes (get_or gs i blank) (drop (i + 1) gs) (sym c.is_sum.ensures ∙ c.if-not-is_sum.false)) ∙ sym (at_drop_more only_sums gs i blank c.loop-gate-test.true) ∙ c.loop-gate.invariant
 
-pub returns-then-not-is-sum : goal.returns-then-not-is-sum
-returns-then-not-is-sum c =
+pub returns-then-not-is_sum : goal.returns-then-not-is_sum
+returns-then-not-is_sum c =
     let gs = c.args.gates.now in
     let i = c.loop-gate.gate-index in
-    sym (first_no (get_or gs i blank) (drop (i + 1) gs) (sym c.is-sum.ensures ∙ c.if-not-is-sum.true)) ∙ sym (at_drop_more only_sums gs i blank c.loop-gate-test.true) ∙ c.loop-gate.invariant
+    sym (first_no (get_or gs i blank) (drop (i + 1) gs) (sym c.is_sum.ensures ∙ c.if-not-is_sum.true)) ∙ sym (at_drop_more only_sums gs i blank c.loop-gate-test.true) ∙ c.loop-gate.invariant
 
 pub returns : goal.returns
 returns c =

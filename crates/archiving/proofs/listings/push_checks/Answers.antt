@@ -9,21 +9,21 @@ returns-then-sockets-gt8 c =
     let q = c.args.sockets in
     let n = c.args.scratch in
     let gs = c.args.gates.now in
-    pushed_as c.push-columns.result (vec_items c.args.out.now) (columns_text (8 * q + n) gs) (checks_text q n gs) (vec_items c.push-columns.new.out)
-    (many_sockets q n gs c.if-sockets-gt8.true) c.push-columns.ensures
+    pushed_as c.push_columns.result (vec_items c.args.out.now) (columns_text (8 * q + n) gs) (checks_text q n gs) (vec_items c.push_columns.new.out)
+    (many_sockets q n gs c.if-sockets-gt8.true) c.push_columns.ensures
 
-pub returns-then-only-sums : goal.returns-then-only-sums
-returns-then-only-sums c =
+pub returns-then-only_sums : goal.returns-then-only_sums
+returns-then-only_sums c =
     let q = c.args.sockets in
     let n = c.args.scratch in
     let gs = c.args.gates.now in
-    pushed_as c.push-masks.result (vec_items c.args.out.now) (masks_text q (8 * q + n) gs) (checks_text q n gs) (vec_items c.push-masks.new.out)
-    (by_masks q n gs (omega arith) (sym c.only-sums.ensures ∙ c.if-only-sums.true)) c.push-masks.ensures
+    pushed_as c.push_masks.result (vec_items c.args.out.now) (masks_text q (8 * q + n) gs) (checks_text q n gs) (vec_items c.push_masks.new.out)
+    (by_masks q n gs (omega arith) (sym c.only_sums.ensures ∙ c.if-only_sums.true)) c.push_masks.ensures
 
-pub returns-else-only-sums : goal.returns-else-only-sums
-returns-else-only-sums c =
+pub returns-else-only_sums : goal.returns-else-only_sums
+returns-else-only_sums c =
     let q = c.args.sockets in
     let n = c.args.scratch in
     let gs = c.args.gates.now in
-    pushed_as c.push-columns-else-only-sums.result (vec_items c.args.out.now) (columns_text (8 * q + n) gs) (checks_text q n gs) (vec_items c.push-columns-else-only-sums.new.out)
-    (by_columns_lem q n gs (sym c.only-sums.ensures ∙ c.if-only-sums.false)) c.push-columns-else-only-sums.ensures
+    pushed_as c.push_columns-else-only_sums.result (vec_items c.args.out.now) (columns_text (8 * q + n) gs) (checks_text q n gs) (vec_items c.push_columns-else-only_sums.new.out)
+    (by_columns_lem q n gs (sym c.only_sums.ensures ∙ c.if-only_sums.false)) c.push_columns-else-only_sums.ensures

@@ -26,12 +26,12 @@ loop-i-preserved c =
     let line = column_line i g (made_by g w0) (made_by g w1) (made_by g w2) (made_by g w3) in
     let more = column_lines (i + 1) (stepped g w0) (stepped g w1) (stepped g w2) (stepped g w3) (drop (i + 1) gs) in
     let one : column_lines i w0 w1 w2 w3 (drop i gs) ≡ line ++ more = at_drop_more (column_lines i w0 w1 w2 w3) gs i empty c.loop-i-test.true in
-    let new = c.in-ok-push-column-line.ensures
-    ∙ ap₂ (λ x y. had ++ column_line i g x y c.do-gate-x2.result c.do-gate-x3.result) c.do-gate-x0.ensures.value c.do-gate-x1.ensures.value
-    ∙ ap₂ (λ x y. had ++ column_line i g (made_by g w0) (made_by g w1) x y) c.do-gate-x2.ensures.value c.do-gate-x3.ensures.value in
-    let rest : column_lines (i + 1) c.do-gate-x0.new.words c.do-gate-x1.new.words c.do-gate-x2.new.words c.do-gate-x3.new.words (drop (i + 1) gs) ≡ more =
-    ap₂ (λ x y. column_lines (i + 1) x y c.do-gate-x2.new.words c.do-gate-x3.new.words (drop (i + 1) gs)) c.do-gate-x0.ensures.leaves c.do-gate-x1.ensures.leaves
-    ∙ ap₂ (λ x y. column_lines (i + 1) (stepped g w0) (stepped g w1) x y (drop (i + 1) gs)) c.do-gate-x2.ensures.leaves c.do-gate-x3.ensures.leaves in
+    let new = c.in_ok-push_column_line.ensures
+    ∙ ap₂ (λ x y. had ++ column_line i g x y c.do_gate-x2.result c.do_gate-x3.result) c.do_gate-x0.ensures.value c.do_gate-x1.ensures.value
+    ∙ ap₂ (λ x y. had ++ column_line i g (made_by g w0) (made_by g w1) x y) c.do_gate-x2.ensures.value c.do_gate-x3.ensures.value in
+    let rest : column_lines (i + 1) c.do_gate-x0.new.words c.do_gate-x1.new.words c.do_gate-x2.new.words c.do_gate-x3.new.words (drop (i + 1) gs) ≡ more =
+    ap₂ (λ x y. column_lines (i + 1) x y c.do_gate-x2.new.words c.do_gate-x3.new.words (drop (i + 1) gs)) c.do_gate-x0.ensures.leaves c.do_gate-x1.ensures.leaves
+    ∙ ap₂ (λ x y. column_lines (i + 1) (stepped g w0) (stepped g w1) x y (drop (i + 1) gs)) c.do_gate-x2.ensures.leaves c.do_gate-x3.ensures.leaves in
     ap₂ (λ x y. x ++ y) new rest
     ∙ append_assoc had line more
     ∙ ap (λ l. had ++ l) (sym one)

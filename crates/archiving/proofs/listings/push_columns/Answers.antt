@@ -9,13 +9,13 @@ returns c =
     let s = vec_items c.args.out.now in
     let n = c.args.count in
     let gs = c.args.gates.now in
-    let v0 = c.as-mut-slice.result.now in
-    let v1 = c.as-mut-slice-2.result.now in
-    let v2 = c.as-mut-slice-3.result.now in
-    let v3 = c.as-mut-slice-4.result.now in
-    let same = ap₂ (λ x y. column_lines 0 x y v2 v3 gs) (c.as-mut-slice.ensures.value ∙ c.in-ok-w0.ensures) (c.as-mut-slice-2.ensures.value ∙ c.in-ok-w1.ensures)
-    ∙ ap₂ (λ x y. column_lines 0 (input_words 0 n) (input_words 1 n) x y gs) (c.as-mut-slice-3.ensures.value ∙ c.in-ok-w2.ensures) (c.as-mut-slice-4.ensures.value ∙ c.in-ok-w3.ensures) in
-    let all = vec_items c.push-column-lines.new.out in
+    let v0 = c.as_mut_slice.result.now in
+    let v1 = c.as_mut_slice-2.result.now in
+    let v2 = c.as_mut_slice-3.result.now in
+    let v3 = c.as_mut_slice-4.result.now in
+    let same = ap₂ (λ x y. column_lines 0 x y v2 v3 gs) (c.as_mut_slice.ensures.value ∙ c.in_ok-w0.ensures) (c.as_mut_slice-2.ensures.value ∙ c.in_ok-w1.ensures)
+    ∙ ap₂ (λ x y. column_lines 0 (input_words 0 n) (input_words 1 n) x y gs) (c.as_mut_slice-3.ensures.value ∙ c.in_ok-w2.ensures) (c.as_mut_slice-4.ensures.value ∙ c.in_ok-w3.ensures) in
+    let all = vec_items c.push_column_lines.new.out in
     let lines = column_lines 0 (input_words 0 n) (input_words 1 n) (input_words 2 n) (input_words 3 n) gs in
-    last_pushed c.push-column-lines.result s (codes " gate  kind    t    a    b   column\n") lines all c.in-ok-push-text.ensures
-    (pushed_as c.push-column-lines.result (vec_items c.push-text.new.out) (column_lines 0 v0 v1 v2 v3 gs) lines all same c.push-column-lines.ensures)
+    last_pushed c.push_column_lines.result s (codes " gate  kind    t    a    b   column\n") lines all c.in_ok-push_text.ensures
+    (pushed_as c.push_column_lines.result (vec_items c.push_text.new.out) (column_lines 0 v0 v1 v2 v3 gs) lines all same c.push_column_lines.ensures)

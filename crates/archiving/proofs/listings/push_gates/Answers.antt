@@ -5,8 +5,8 @@ use Rattle.archiving.proofs.Written.{pushed_as}
 use Rattle.archiving.proofs.Listed.{listed_whole, listed_not}
 use Rattle.archiving.proofs.listings.push_gates.Goals as goal
 
-pub push-listed-requires : goal.push-listed-requires
-push-listed-requires c =
+pub push_listed-requires : goal.push_listed-requires
+push_listed-requires c =
     let p = c.in-Ok.page in
     let h = c.in-Ok.ensures in
     places_count c.args.bytes.now p.sockets p.scratch p.kinds.now p.places.now h.0 h.1
@@ -15,10 +15,10 @@ pub returns-in-Ok : goal.returns-in-Ok
 returns-in-Ok c =
     let p = c.in-Ok.page in
     let h = c.in-Ok.ensures in
-    pushed_as c.push-listed.result (vec_items c.args.out.now) (listed_text p.kinds.now p.places.now p.sockets p.scratch) (gates_text c.args.bytes.now) (vec_items c.push-listed.new.out)
-    (listed_whole c.args.bytes.now p.sockets p.scratch p.kinds.now p.places.now h.0 h.1) c.push-listed.ensures
+    pushed_as c.push_listed.result (vec_items c.args.out.now) (listed_text p.kinds.now p.places.now p.sockets p.scratch) (gates_text c.args.bytes.now) (vec_items c.push_listed.new.out)
+    (listed_whole c.args.bytes.now p.sockets p.scratch p.kinds.now p.places.now h.0 h.1) c.push_listed.ensures
 
 pub returns-in-Err : goal.returns-in-Err
 returns-in-Err c =
-    pushed_as c.push-text.result (vec_items c.args.out.now) (codes "These bytes are no whole page.\n") (gates_text c.args.bytes.now) (vec_items c.push-text.new.out)
-    (listed_not c.args.bytes.now c.in-Err.ensures.0) c.push-text.ensures
+    pushed_as c.push_text.result (vec_items c.args.out.now) (codes "These bytes are no whole page.\n") (gates_text c.args.bytes.now) (vec_items c.push_text.new.out)
+    (listed_not c.args.bytes.now c.in-Err.ensures.0) c.push_text.ensures

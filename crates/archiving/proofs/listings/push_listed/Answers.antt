@@ -12,7 +12,7 @@ returns c =
     let n = c.args.scratch in
     let kinds = c.args.kinds.now in
     let gs = map (gate_at kinds c.args.places.now) (range_with_len 0 (length kinds)) in
-    let all = vec_items c.push-checks.new.out in
-    let same = ap (λ x. checks_text q n x) (c.as-slice.ensures.value ∙ c.in-ok-gates.ensures) in
-    last_pushed c.push-checks.result s (sizes_text (length kinds) q n) (checks_text q n gs) all c.in-ok-push-sizes.ensures
-    (pushed_as c.push-checks.result (vec_items c.push-sizes.new.out) (checks_text q n c.as-slice.result.now) (checks_text q n gs) all same c.push-checks.ensures)
+    let all = vec_items c.push_checks.new.out in
+    let same = ap (λ x. checks_text q n x) (c.as_slice.ensures.value ∙ c.in_ok-gates.ensures) in
+    last_pushed c.push_checks.result s (sizes_text (length kinds) q n) (checks_text q n gs) all c.in_ok-push_sizes.ensures
+    (pushed_as c.push_checks.result (vec_items c.push_sizes.new.out) (checks_text q n c.as_slice.result.now) (checks_text q n gs) all same c.push_checks.ensures)

@@ -25,9 +25,9 @@ loop-i-preserved c =
     let line = mask_line i g q (made_by g us) (made_by g zs) in
     let more = mask_lines q (i + 1) (stepped g us) (stepped g zs) (drop (i + 1) gs) in
     let one : mask_lines q i us zs (drop i gs) ≡ line ++ more = at_drop_more (mask_lines q i us zs) gs i empty c.loop-i-test.true in
-    let new = c.in-ok-push-mask-line.ensures ∙ ap₂ (λ x y. had ++ mask_line i g q x y) c.do-gate-word.ensures.value c.do-gate-blank.ensures.value in
-    let rest : mask_lines q (i + 1) c.do-gate-word.new.words c.do-gate-blank.new.words (drop (i + 1) gs) ≡ more =
-    ap₂ (λ x y. mask_lines q (i + 1) x y (drop (i + 1) gs)) c.do-gate-word.ensures.leaves c.do-gate-blank.ensures.leaves in
+    let new = c.in_ok-push_mask_line.ensures ∙ ap₂ (λ x y. had ++ mask_line i g q x y) c.do_gate-word.ensures.value c.do_gate-blank.ensures.value in
+    let rest : mask_lines q (i + 1) c.do_gate-word.new.words c.do_gate-blank.new.words (drop (i + 1) gs) ≡ more =
+    ap₂ (λ x y. mask_lines q (i + 1) x y (drop (i + 1) gs)) c.do_gate-word.ensures.leaves c.do_gate-blank.ensures.leaves in
     ap₂ (λ x y. x ++ y) new rest
     ∙ append_assoc had line more
     ∙ ap (λ l. had ++ l) (sym one)

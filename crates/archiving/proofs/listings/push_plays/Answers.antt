@@ -9,7 +9,7 @@ loop-i-init c = refl
 
 pub loop-i-preserved : goal.loop-i-preserved
 loop-i-preserved c =
-    next_line c.args.plan.now c.loop-i.i _ (vec_items c.loop-i.out) (vec_items c.push-play.new.out) c.loop-i-test.true c.in-ok-push-play.ensures ∙ c.loop-i.invariant
+    next_line c.args.plan.now c.loop-i.i _ (vec_items c.loop-i.out) (vec_items c.push_play.new.out) c.loop-i-test.true c.in_ok-push_play.ensures ∙ c.loop-i.invariant
 
 pub returns : goal.returns
 returns c =

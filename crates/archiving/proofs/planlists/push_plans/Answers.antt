@@ -10,17 +10,17 @@ pub returns : goal.returns
 unfolding every_play
 returns c =
     let v0 = vec_items c.args.out.now in
-    let v1 = vec_items c.push-text.new.out in
-    let v2 = vec_items c.push-schedule.new.out in
-    let v3 = vec_items c.push-text-2.new.out in
-    let v4 = vec_items c.push-rounds.new.out in
-    let v5 = vec_items c.push-text-3.new.out in
-    let v6 = vec_items c.push-rounds-2.new.out in
+    let v1 = vec_items c.push_text.new.out in
+    let v2 = vec_items c.push_schedule.new.out in
+    let v3 = vec_items c.push_text-2.new.out in
+    let v4 = vec_items c.push_rounds.new.out in
+    let v5 = vec_items c.push_text-3.new.out in
+    let v6 = vec_items c.push_rounds-2.new.out in
     let x = lines_of 0 (schedule_plan aes128) in
     let y = lines_of 0 (seal_plan aes128) in
     let z = lines_of 0 (open_plan aes128) in
-    let p : Extends x v1 v2 = subst (λ (ps : List Play). Extends (lines_of 0 ps) v1 v2) c.schedule-plan.ensures c.in-ok-push-schedule.ensures in
-    let q : Extends y v3 v4 = subst (λ (ps : List Play). Extends (lines_of 0 ps) v3 v4) c.seal-plan.ensures c.in-ok-push-rounds.ensures in
-    let r : Extends z v5 v6 = subst (λ (ps : List Play). Extends (lines_of 0 ps) v5 v6) c.open-plan.ensures c.in-ok-push-rounds-2.ensures in
-    extends_then x (y ++ z) v0 v2 v6 (extends_from x v0 v1 v2 _ c.in-ok-push-text.ensures p)
-    (extends_then y z v2 v4 v6 (extends_from y v2 v3 v4 _ c.in-ok-push-text-2.ensures q) (extends_from z v4 v5 v6 _ c.in-ok-push-text-3.ensures r))
+    let p : Extends x v1 v2 = subst (λ (ps : List Play). Extends (lines_of 0 ps) v1 v2) c.schedule_plan.ensures c.in_ok-push_schedule.ensures in
+    let q : Extends y v3 v4 = subst (λ (ps : List Play). Extends (lines_of 0 ps) v3 v4) c.seal_plan.ensures c.in_ok-push_rounds.ensures in
+    let r : Extends z v5 v6 = subst (λ (ps : List Play). Extends (lines_of 0 ps) v5 v6) c.open_plan.ensures c.in_ok-push_rounds-2.ensures in
+    extends_then x (y ++ z) v0 v2 v6 (extends_from x v0 v1 v2 _ c.in_ok-push_text.ensures p)
+    (extends_then y z v2 v4 v6 (extends_from y v2 v3 v4 _ c.in_ok-push_text-2.ensures q) (extends_from z v4 v5 v6 _ c.in_ok-push_text-3.ensures r))

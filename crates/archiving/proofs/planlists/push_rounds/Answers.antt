@@ -6,8 +6,8 @@ pub returns : goal.returns
 returns c =
     let plan = c.args.plan.now in
     let v0 = vec_items c.args.out.now in
-    let v1 = vec_items c.push-groups.new.out in
-    let v2 = vec_items c.push-groups-2.new.out in
-    let v3 = vec_items c.push-groups-3.new.out in
-    reached_all plan _ v0 v3 (vec_items c.push-plays.new.out)
-    (reached_then plan 0 _ _ v0 v2 v3 (reached_then plan 0 _ _ v0 v1 v2 c.in-ok-a.ensures c.in-ok-b.ensures) c.in-ok-c.ensures) c.in-ok-push-plays.ensures
+    let v1 = vec_items c.push_groups.new.out in
+    let v2 = vec_items c.push_groups-2.new.out in
+    let v3 = vec_items c.push_groups-3.new.out in
+    reached_all plan _ v0 v3 (vec_items c.push_plays.new.out)
+    (reached_then plan 0 _ _ v0 v2 v3 (reached_then plan 0 _ _ v0 v1 v2 c.in_ok-a.ensures c.in_ok-b.ensures) c.in_ok-c.ensures) c.in_ok-push_plays.ensures

@@ -13,5 +13,5 @@ loop-step-preserved c =
     let high : at ≤ length plan = c.loop-step.invariant.high in
     let low : at ≤ end = search rules in
     let top : end ≤ length plan = search rules in
-    reached_then plan c.args.from at end (vec_items c.args.out.now) (vec_items c.loop-step.out) (vec_items c.push-plays.new.out) c.loop-step.invariant
-    (reached_step plan at end _ (vec_items c.loop-step.out) (vec_items c.push-text.new.out) (vec_items c.push-plays.new.out) _ low top c.in-ok-push-text.ensures c.split-at.ensures.front c.in-ok-push-plays.ensures)
+    reached_then plan c.args.from at end (vec_items c.args.out.now) (vec_items c.loop-step.out) (vec_items c.push_plays.new.out) c.loop-step.invariant
+    (reached_step plan at end _ (vec_items c.loop-step.out) (vec_items c.push_text.new.out) (vec_items c.push_plays.new.out) _ low top c.in_ok-push_text.ensures c.split_at.ensures.front c.in_ok-push_plays.ensures)

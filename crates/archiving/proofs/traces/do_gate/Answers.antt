@@ -9,7 +9,7 @@ pub returns-then-gate-words : goal.returns-then-gate-words
 returns-then-gate-words c =
     let g = c.args.gate in
     let ws = c.args.words.now in
-    let e : c.combine-word.result ≡ made_by g ws = c.combine-word.ensures ∙ ap₂ (combined g.kind) c.word-at.ensures c.word-at-2.ensures in
+    let e : c.combine-word.result ≡ made_by g ws = c.combine-word.ensures ∙ ap₂ (combined g.kind) c.word_at.ensures c.word_at-2.ensures in
     let p : get_or ws g.first 0 < 2 ^ 64 = search rules in
     let q : get_or ws g.second 0 < 2 ^ 64 = search rules in
     record {
@@ -22,7 +22,7 @@ pub returns-else-gate-words : goal.returns-else-gate-words
 returns-else-gate-words c =
     let g = c.args.gate in
     let ws = c.args.words.now in
-    let e : c.combine-word.result ≡ made_by g ws = c.combine-word.ensures ∙ ap₂ (combined g.kind) c.word-at.ensures c.word-at-2.ensures in
+    let e : c.combine-word.result ≡ made_by g ws = c.combine-word.ensures ∙ ap₂ (combined g.kind) c.word_at.ensures c.word_at-2.ensures in
     let p : get_or ws g.first 0 < 2 ^ 64 = search rules in
     let q : get_or ws g.second 0 < 2 ^ 64 = search rules in
     record {

@@ -3,8 +3,8 @@ use lib.Arith.{digits_lt}
 use Rattle.bench.specs.Row.{rows_done, row_step}
 use Rattle.bench.proofs.row.gate_rows.Goals as goal
 
-pub gate-row-requires : goal.gate-row-requires
-gate-row-requires c =
+pub gate_row-requires : goal.gate_row-requires
+gate_row-requires c =
     let i = c.loop-lane.lane in
     let w = c.args.row in (
       omega (arith, digits_lt {q = i} {m = c.args.rows} {r = c.args.target / 8} {c = w} (omega arith) (omega arith)),
@@ -17,6 +17,6 @@ gate-row-requires c =
 pub loop-lane-preserved : goal.loop-lane-preserved
 loop-lane-preserved c =
     let i = c.loop-lane.lane in
-    c.gate-row.ensures
+    c.gate_row.ensures
     ∙ ap (row_step c.args.kind c.args.target c.args.a c.args.b (i * c.args.row)) c.loop-lane.invariant
     ∙ ap (λ n. rows_done c.args.kind c.args.target c.args.a c.args.b c.args.row n c.args.bytes.now) (sym (add-one i))

@@ -33,15 +33,15 @@ returns-then-left-needed g c =
 pub returns : goal.returns
 returns g c =
     let m = told g.B.Bench.registers g.B.Bench.lanes g.B.Bench.left g.B.Bench.shows c.args.bench.now in
-    let m' = told g.B.Bench.registers g.B.Bench.lanes g.B.Bench.left g.B.Bench.shows c.play-plan.new.bench in
+    let m' = told g.B.Bench.registers g.B.Bench.lanes g.B.Bench.left g.B.Bench.shows c.play_plan.new.bench in
     let x = g.B.Bench.beneath c.args.bench.now in
     let ps = c.args.plan.now in
-    let ran = c.play-plan.ensures in
-    let own : c.own-inverter.result.now ≡ own_inverter = c.own-inverter.ensures in
+    let ran = c.play_plan.ensures in
+    let own : c.own_inverter.result.now ≡ own_inverter = c.own_inverter.ensures in
     let fits : fit own_inverter m.registers ps ≡ true =
     fit_more own_inverter _ m.registers (told_room own_inverter aes128 ps m _ _ _ c.registers.ensures c.lanes.ensures c.sized.ensures c.if-not-sized.false) ps c.requires.0 in
     let enough : plan_gates own_inverter ps ≤ m.left = omega (arith, c.left-left.ensures, c.requires.1) in
-    let ok : c.play-plan.result ≡ Ok tt = ran.answer ∙ ap (λ i. plays_answer i ps m) own ∙ plan_answer_lem own_inverter own_whole ps m fits enough in
+    let ok : c.play_plan.result ≡ Ok tt = ran.answer ∙ ap (λ i. plays_answer i ps m) own ∙ plan_answer_lem own_inverter own_whole ps m fits enough in
     let done : m' ≡ planned own_inverter ps m = ran.leaves ∙ ap (λ i. carried i (do_play i) ps m m) own ∙ plan_leaves own_inverter own_whole ps m fits enough in
     record {
       answer = ok ∙ told_accept own_inverter aes128 ps m _ _ _ c.registers.ensures c.lanes.ensures c.sized.ensures _ _ c.left-left.ensures c.requires.1

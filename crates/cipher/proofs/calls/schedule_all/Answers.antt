@@ -11,20 +11,20 @@ use Rattle.cipher.specs.Claims.{plan_answer, Given, Fallen, Schedules}
 use Rattle.cipher.proofs.Stood.{schedules, given_from}
 use Rattle.cipher.proofs.calls.schedule_all.Goals as goal
 
-pub ask-and-play-requires : goal.ask-and-play-requires
-ask-and-play-requires g c = (
-  ap (fit own_inverter (room aes128)) c.schedule-plan.ensures ∙ schedule_fit aes128,
-  c.schedule-gates.ensures.count ∙ ap (plan_gates own_inverter) (sym c.schedule-plan.ensures),
+pub ask_and_play-requires : goal.ask_and_play-requires
+ask_and_play-requires g c = (
+  ap (fit own_inverter (room aes128)) c.schedule_plan.ensures ∙ schedule_fit aes128,
+  c.schedule_gates.ensures.count ∙ ap (plan_gates own_inverter) (sym c.schedule_plan.ensures),
 )
 
 pub returns : goal.returns
 returns g c =
     let m = told g.B.Bench.registers g.B.Bench.lanes g.B.Bench.left g.B.Bench.shows c.args.bench.now in
-    let m' = told g.B.Bench.registers g.B.Bench.lanes g.B.Bench.left g.B.Bench.shows c.ask-and-play.new.bench in
+    let m' = told g.B.Bench.registers g.B.Bench.lanes g.B.Bench.left g.B.Bench.shows c.ask_and_play.new.bench in
     let x = g.B.Bench.beneath c.args.bench.now in
-    let r = c.ask-and-play.result in
-    let plan = c.schedule-plan.ensures in
-    let ran = c.ask-and-play.ensures in
+    let r = c.ask_and_play.result in
+    let plan = c.schedule_plan.ensures in
+    let ran = c.ask_and_play.ensures in
     let leaves : m' ≡ after r (planned own_inverter (schedule_plan aes128) m) m = ran.leaves ∙ ap (λ ps. after r (planned own_inverter ps m) m) plan in
     record {
       answer = ran.answer ∙ ap (λ ps. plan_answer own_inverter aes128 ps m) plan;

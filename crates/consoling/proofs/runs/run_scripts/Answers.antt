@@ -6,7 +6,7 @@ use Rattle.consoling.proofs.runs.run_scripts.Goals as goal
 
 pub returns : goal.returns
 returns g c =
-    let ran = c.run-both-units.ensures in
+    let ran = c.run_both-units.ensures in
     record {
       one = record {
         answers = ran.logs.0 ∙ log_over (meaning g.P.Bench c.args.one) (g.P.Bench.beneath c.args.one) (asks c.args.first.now);

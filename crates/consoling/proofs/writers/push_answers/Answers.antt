@@ -12,7 +12,7 @@ loop-turn-preserved c =
     let i = c.loop-turn.turn-index in
     let had = vec_items c.loop-turn.out in
     let left = lines (drop c.loop-turn.next c.args.log.now) in
-    let done = c.in-ok-next.ensures in
+    let done = c.in_ok-next.ensures in
     let more = drop_more ts i turn.Call c.loop-turn-test.true in (
       done.within,
       done.text (drop (i + 1) ts)

@@ -5,9 +5,9 @@ use Rattle.coordinates.specs.Carried.{carried_rcon}
 use Rattle.coordinates.proofs.CarriedLaws.{Rcon_carried}
 use Rattle.coordinates.proofs.carried.round_constant_added.Goals as goal
 
-constant : (c : goal.After-to-coordinates) → c.to-coordinates.result ≡ carried_rcon c.args.n
+constant : (c : goal.After-to_coordinates) → c.to_coordinates.result ≡ carried_rcon c.args.n
 unfolding carried_rcon
-constant c = c.to-coordinates.ensures.is ∙ ap to_coordinates c.rcon.ensures
+constant c = c.to_coordinates.ensures.is ∙ ap to_coordinates c.rcon.ensures
 
 pub returns : goal.returns
 returns c =

@@ -6,4 +6,4 @@ use Rattle.coordinates.proofs.tower.first_of.Goals as goal
 
 pub returns : goal.returns
 unfolding first_of
-returns c = ap₂ bit_xor c.mul.ensures (c.mul-2.ensures ∙ ap (mul 0x27) c.middle-power.ensures)
+returns c = ap₂ bit_xor c.mul.ensures (c.mul-2.ensures ∙ ap (mul 0x27) c.middle_power.ensures)

@@ -7,8 +7,8 @@ use Rattle.coordinates.proofs.tower.inverse_by_tower.Goals as goal
 
 is : (c : goal.After-over) → c.over.result ≡ inverse c.args.u
 is c =
-    let p = c.first-of-p.ensures in
-    let q = c.second-of-q.ensures in
+    let p = c.first_of-p.ensures in
+    let q = c.second_of-q.ensures in
     let g = c.inverse-g.ensures.is ∙ ap inverse (c.norm.ensures ∙ ap₂ g_of p q) in
     c.over.ensures ∙ ap₂ over (c.mul.ensures ∙ ap₂ mul g q) (c.mul-2.ensures ∙ ap₂ mul g p) ∙ sym (inverse_by_pair c.args.u (omega arith))
 

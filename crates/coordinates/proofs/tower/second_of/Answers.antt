@@ -6,4 +6,4 @@ use Rattle.coordinates.proofs.tower.second_of.Goals as goal
 
 pub returns : goal.returns
 unfolding second_of
-returns c = ap₂ bit_xor c.mul.ensures (c.mul-2.ensures ∙ ap (mul 0x2a) c.middle-power.ensures)
+returns c = ap₂ bit_xor c.mul.ensures (c.mul-2.ensures ∙ ap (mul 0x2a) c.middle_power.ensures)

@@ -8,7 +8,7 @@ loop-r-preserved c =
     let now = c.loop-r.records in
     let i = c.loop-r.r-index in
     let here = half_here promotes xs now i c.loop-r-test.true c.loop-r.invariant in
-    half_next promotes xs now i _ c.loop-r-test.true c.loop-r.invariant (promote_one _ _ _ here c.promoted-key-r.ensures)
+    half_next promotes xs now i _ c.loop-r-test.true c.loop-r.invariant (promote_one _ _ _ here c.promoted_key-r.ensures)
 
 pub returns : goal.returns
 returns c = half_end promotes _ _ _ c.loop-r-test.false c.loop-r.invariant

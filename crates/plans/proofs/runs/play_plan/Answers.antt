@@ -9,11 +9,11 @@ use Rattle.plans.proofs.runs.play_plan.Goals as goal
 pub loop-p-init : goal.loop-p-init
 loop-p-init g c = (refl, refl, refl)
 
-pub returns-in-err-play : goal.returns-in-err-play
-returns-in-err-play g c =
+pub returns-in_err-play : goal.returns-in_err-play
+returns-in_err-play g c =
     let m = told g.B.Bench.registers g.B.Bench.lanes g.B.Bench.left g.B.Bench.shows in
     let inv = c.args.inverter.now in let xs = c.args.plan.now in let i = c.loop-p.p-index in
-    let said = c.in-err-play.ensures in
+    let said = c.in_err-play.ensures in
     let exit = err_from_is_err_and c.from-residual.result c.from-residual.ensures.1 in
     record {
       answer = exit.1 ∙ ap Err exit.2 ∙ sym (c.loop-p.invariant.0 ∙ answer_stops inv xs i _ c.loop-p-test.true (m c.loop-p.bench) c.page.ensures c.bases.ensures _ said.answer);
@@ -25,7 +25,7 @@ pub loop-p-preserved : goal.loop-p-preserved
 loop-p-preserved g c =
     let m = told g.B.Bench.registers g.B.Bench.lanes g.B.Bench.left g.B.Bench.shows in
     let inv = c.args.inverter.now in let xs = c.args.plan.now in let i = c.loop-p.p-index in
-    let said = c.in-ok-play.ensures in
+    let said = c.in_ok-play.ensures in
     let m' = m c.play.new.bench in (
       c.loop-p.invariant.0 ∙ answer_goes inv xs i _ c.loop-p-test.true (m c.loop-p.bench) c.page.ensures c.bases.ensures _ said.answer m' said.leaves,
       c.loop-p.invariant.1 ∙ carried_goes inv xs i _ c.loop-p-test.true (m c.loop-p.bench) c.page.ensures c.bases.ensures _ said.answer m' said.leaves

@@ -7,30 +7,30 @@ use Rattle.playing.specs.Commands.{verb_in, shorts_in, called_with, call_named, 
 use Rattle.playing.proofs.Places.{command_is, numbers_follow}
 use Rattle.playing.proofs.readers.read_command.Goals as goal
 
-pub returns-in-default : goal.returns-in-default
-returns-in-default c =
+pub returns-in_default : goal.returns-in_default
+returns-in_default c =
     let l = c.args.line.now in
-    sym (command_is l None (c.in-default.ensures ∙ ap verb_in c.split-word.ensures.word))
+    sym (command_is l None (c.in_default.ensures ∙ ap verb_in c.split_word.ensures.word))
 
 pub returns-in-Page : goal.returns-in-Page
 returns-in-Page c =
     let l = c.args.line.now in
-    let verb : Some Page ≡ verb_in (word_of l) = sym (ap Some c.in-Page.is) ∙ c.in-Some.ensures ∙ ap verb_in c.split-word.ensures.word in
-    let same : page_in (words_in c.split-word.result.1.now) ≡ command_in l = ap (λ r. page_in (words_in r)) c.split-word.ensures.rest ∙ sym (command_is l (Some Page) verb) in
-    subst (λ (x : Option Call). IfOk c.page-command.result (λ o. option_map meant o ≡ x)) same c.page-command.ensures
+    let verb : Some Page ≡ verb_in (word_of l) = sym (ap Some c.in-Page.is) ∙ c.in-Some.ensures ∙ ap verb_in c.split_word.ensures.word in
+    let same : page_in (words_in c.split_word.result.1.now) ≡ command_in l = ap (λ r. page_in (words_in r)) c.split_word.ensures.rest ∙ sym (command_is l (Some Page) verb) in
+    subst (λ (x : Option Call). IfOk c.page_command.result (λ o. option_map meant o ≡ x)) same c.page_command.ensures
 
 pub returns-in-Some-2 : goal.returns-in-Some-2
 returns-in-Some-2 c =
     let l = c.args.line.now in
     let v = c.in-Some.verb in
-    let whole = command_is l (Some v) (c.in-Some.ensures ∙ ap verb_in c.split-word.ensures.word) ∙ numbers_follow v (words_in (after_word l)) c.in-default-verb.not-Page in
-    let numbers : Some (vec_items c.in-Some-2.numbers) ≡ shorts_in (words_in (after_word l)) = sym (ap (option_map vec_items) c.in-Some-2.is) ∙ c.in-ok-numbers.ensures ∙ ap (λ r. shorts_in (words_in r)) c.split-word.ensures.rest in
-    c.command-of.ensures ∙ ap (called_with v) numbers ∙ sym whole
+    let whole = command_is l (Some v) (c.in-Some.ensures ∙ ap verb_in c.split_word.ensures.word) ∙ numbers_follow v (words_in (after_word l)) c.in_default-verb.not-Page in
+    let numbers : Some (vec_items c.in-Some-2.numbers) ≡ shorts_in (words_in (after_word l)) = sym (ap (option_map vec_items) c.in-Some-2.is) ∙ c.in_ok-numbers.ensures ∙ ap (λ r. shorts_in (words_in r)) c.split_word.ensures.rest in
+    c.command_of.ensures ∙ ap (called_with v) numbers ∙ sym whole
 
 pub returns-in-None : goal.returns-in-None
 returns-in-None c =
     let l = c.args.line.now in
     let v = c.in-Some.verb in
-    let whole = command_is l (Some v) (c.in-Some.ensures ∙ ap verb_in c.split-word.ensures.word) ∙ numbers_follow v (words_in (after_word l)) c.in-default-verb.not-Page in
-    let numbers : None ≡ shorts_in (words_in (after_word l)) = sym (ap (option_map vec_items) c.in-None.is) ∙ c.in-ok-numbers.ensures ∙ ap (λ r. shorts_in (words_in r)) c.split-word.ensures.rest in
+    let whole = command_is l (Some v) (c.in-Some.ensures ∙ ap verb_in c.split_word.ensures.word) ∙ numbers_follow v (words_in (after_word l)) c.in_default-verb.not-Page in
+    let numbers : None ≡ shorts_in (words_in (after_word l)) = sym (ap (option_map vec_items) c.in-None.is) ∙ c.in_ok-numbers.ensures ∙ ap (λ r. shorts_in (words_in r)) c.split_word.ensures.rest in
     ap (called_with v) numbers ∙ sym whole

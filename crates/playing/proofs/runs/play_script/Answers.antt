@@ -10,22 +10,22 @@ use Rattle.playing.specs.Setups.{bench_in, opens}
 use Rattle.playing.specs.Runs.{outcome, opened, from_line, script_text}
 use Rattle.playing.proofs.Scripts.{line_passed, line_opens}
 use Rattle.playing.proofs.runs.play_script.Goals as goal
-use Rattle.playing.proofs.runs.play_script.Goals.{in-Some+in-ok-run-setup, in-None+in-ok-push-answer}
+use Rattle.playing.proofs.runs.play_script.Goals.{in-Some+in_ok-run_setup, in-None+in_ok-push_answer}
 
-pub returns-then-not-is-silent : goal.returns-then-not-is-silent
-returns-then-not-is-silent c =
+pub returns-then-not-is_silent : goal.returns-then-not-is_silent
+returns-then-not-is_silent c =
     let text = c.loop-rest.rest.now in
-    let line = c.split-line.result.0.now in
-    let rest = c.split-line.result.1.now in
+    let line = c.split_line.result.0.now in
+    let rest = c.split_line.result.1.now in
     let n = c.loop-rest.number + 1 in
     let inv = c.loop-rest.invariant in
     let some : 0 < length text = omega (arith, eqb-false (length text) 0 (sym c.loop-rest-test.ensures)) in
-    let loud : silent line ≡ false = sym c.if-not-is-silent.ensures in
+    let loud : silent line ≡ false = sym c.if-not-is_silent.ensures in
     let opens_at : (room : Bool) → opened room n (bench_in line) (lines_in rest) ≡ script_text room c.args.script.now =
-    λ room. line_opens room n text line rest some c.split-line.ensures.line c.split-line.ensures.rest loud ∙ inv.2 room in
-    elim c.match-read-bench.branch [
-      | in-Some+in-ok-run-setup w ↦
-          let wrote = w.in-ok-run-setup.ensures in (
+    λ room. line_opens room n text line rest some c.split_line.ensures.line c.split_line.ensures.rest loud ∙ inv.2 room in
+    elim c.match-read_bench.branch [
+      | in-Some+in_ok-run_setup w ↦
+          let wrote = w.in_ok-run_setup.ensures in (
             wrote.room,
             ap vec_items w.out-is
                 ∙ wrote.text
@@ -33,10 +33,10 @@ returns-then-not-is-silent c =
                 ∙ ap (λ o. opened wrote.room n o (lines_in rest)) w.in-Some.ensures
                 ∙ opens_at wrote.room,
           )
-      | in-None+in-ok-push-answer w ↦ (
+      | in-None+in_ok-push_answer w ↦ (
         true,
         ap vec_items w.out-is
-            ∙ w.in-ok-push-answer.ensures
+            ∙ w.in_ok-push_answer.ensures
             ∙ ap (λ l. l ++ answer_line (Unreadable n)) inv.1
             ∙ ap (λ o. opened true n o (lines_in rest)) w.in-None.ensures
             ∙ opens_at true,
@@ -47,7 +47,7 @@ pub loop-rest-smaller : goal.loop-rest-smaller
 loop-rest-smaller c =
     let text = c.loop-rest.rest.now in
     let some : 0 < length text = omega (arith, eqb-false (length text) 0 (sym c.loop-rest-test.ensures)) in
-    omega (arith, after_shorter text some, ap length c.split-line.ensures.rest)
+    omega (arith, after_shorter text some, ap length c.split_line.ensures.rest)
 
 pub loop-rest-preserved : goal.loop-rest-preserved
 loop-rest-preserved c =
@@ -56,10 +56,10 @@ loop-rest-preserved c =
     let some : 0 < length text = omega (arith, eqb-false (length text) 0 (sym c.loop-rest-test.ensures)) in
     let shorter = after_shorter text some in
     let inv = c.loop-rest.invariant in
-    let quiet : silent c.split-line.result.0.now ≡ true = sym c.if-not-is-silent.ensures in (
-      omega (arith, inv.0, ap length c.split-line.ensures.rest),
+    let quiet : silent c.split_line.result.0.now ≡ true = sym c.if-not-is_silent.ensures in (
+      omega (arith, inv.0, ap length c.split_line.ensures.rest),
       inv.1,
-      λ room. line_passed room (n + 1) text c.split-line.result.0.now c.split-line.result.1.now some c.split-line.ensures.line c.split-line.ensures.rest quiet ∙ inv.2 room,
+      λ room. line_passed room (n + 1) text c.split_line.result.0.now c.split_line.result.1.now some c.split_line.ensures.line c.split_line.ensures.rest quiet ∙ inv.2 room,
     )
 
 pub returns : goal.returns

@@ -12,7 +12,7 @@ pub loop-rest-smaller : goal.loop-rest-smaller
 loop-rest-smaller g c =
     let text = c.loop-rest.rest.now in
     let some : 0 < length text = omega (arith, eqb-false (length text) 0 (sym c.loop-rest-test.ensures)) in
-    omega (arith, after_shorter text some, ap length c.split-line.ensures.rest)
+    omega (arith, after_shorter text some, ap length c.split_line.ensures.rest)
 
 pub loop-rest-preserved : goal.loop-rest-preserved
 loop-rest-preserved g c =
@@ -20,10 +20,10 @@ loop-rest-preserved g c =
     let m = told g.B.Bench.registers g.B.Bench.lanes g.B.Bench.left g.B.Bench.shows in
     let some : 0 < length text = omega (arith, eqb-false (length text) 0 (sym c.loop-rest-test.ensures)) in
     let inv = c.loop-rest.invariant in (
-      omega (arith, inv.0, after_shorter text some, ap length c.split-line.ensures.rest),
-      line_done (m c.loop-rest.bench) (m c.answer-line.new.bench) (vec_items c.loop-rest.page) (vec_items c.answer-line.new.kept) (c.loop-rest.number + 1)
-          text c.split-line.result.0.now c.split-line.result.1.now (vec_items c.loop-rest.out) (vec_items c.answer-line.new.out)
-          some c.split-line.ensures.line c.split-line.ensures.rest c.in-ok-answer-line.ensures
+      omega (arith, inv.0, after_shorter text some, ap length c.split_line.ensures.rest),
+      line_done (m c.loop-rest.bench) (m c.answer_line.new.bench) (vec_items c.loop-rest.page) (vec_items c.answer_line.new.kept) (c.loop-rest.number + 1)
+          text c.split_line.result.0.now c.split_line.result.1.now (vec_items c.loop-rest.out) (vec_items c.answer_line.new.out)
+          some c.split_line.ensures.line c.split_line.ensures.rest c.in_ok-answer_line.ensures
           ∙ inv.1,
     )
 

@@ -5,5 +5,5 @@ use Rattle.playing.proofs.writers.push_answer.Goals as goal
 
 pub returns : goal.returns
 returns c =
-    last_pushed c.push-text.result (vec_items c.args.out.now) (vec_items c.push-reply.new.out) (vec_items c.push-text.new.out)
-    (answer_text c.args.answer) (10 ∷ []) c.in-ok-push-reply.ensures c.push-text.ensures
+    last_pushed c.push_text.result (vec_items c.args.out.now) (vec_items c.push_reply.new.out) (vec_items c.push_text.new.out)
+    (answer_text c.args.answer) (10 ∷ []) c.in_ok-push_reply.ensures c.push_text.ensures

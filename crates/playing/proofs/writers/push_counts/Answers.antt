@@ -5,5 +5,5 @@ use Rattle.playing.proofs.writers.push_counts.Goals as goal
 
 pub returns : goal.returns
 returns c =
-    last_pushed c.push-spaced.result (vec_items c.args.out.now) (vec_items c.push-text.new.out) (vec_items c.push-spaced.new.out)
-    c.args.label.now (spaced c.args.numbers.now) c.in-ok-push-text.ensures c.push-spaced.ensures
+    last_pushed c.push_spaced.result (vec_items c.args.out.now) (vec_items c.push_text.new.out) (vec_items c.push_spaced.new.out)
+    c.args.label.now (spaced c.args.numbers.now) c.in_ok-push_text.ensures c.push_spaced.ensures

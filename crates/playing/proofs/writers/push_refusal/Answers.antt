@@ -8,9 +8,9 @@ pub returns : goal.returns
 returns c =
     let f = c.args.fault in
     let start = vec_items c.args.out.now in
-    refusal_pushed c.push-spaced.result start (vec_items c.push-counts.new.out) (vec_items c.push-text.new.out) (vec_items c.push-part.new.out) (vec_items c.push-spaced.new.out)
+    refusal_pushed c.push_spaced.result start (vec_items c.push_counts.new.out) (vec_items c.push_text.new.out) (vec_items c.push_part.new.out) (vec_items c.push_spaced.new.out)
     (codes "refused") (spaced (number_of f.question ∷ [])) (part_name f.part) (spaced (f.place ∷ []))
-    (c.in-ok-push-counts.ensures ∙ ap (λ n. start ++ (codes "refused" ++ spaced (n ∷ []))) c.number.ensures)
-    c.in-ok-push-text.ensures
-    c.in-ok-push-part.ensures
-    c.push-spaced.ensures
+    (c.in_ok-push_counts.ensures ∙ ap (λ n. start ++ (codes "refused" ++ spaced (n ∷ []))) c.number.ensures)
+    c.in_ok-push_text.ensures
+    c.in_ok-push_part.ensures
+    c.push_spaced.ensures

@@ -5,5 +5,5 @@ use Rattle.playing.proofs.writers.push_reply.Goals as goal
 
 pub returns-in-Unreadable : goal.returns-in-Unreadable
 returns-in-Unreadable c =
-    subst (λ (a : Answer). IfOk c.push-counts-in-Unreadable.result (λ _. vec_items c.push-counts-in-Unreadable.new.out ≡ vec_items c.args.out.now ++ answer_text a))
-    (sym c.in-Unreadable.is) c.push-counts-in-Unreadable.ensures
+    subst (λ (a : Answer). IfOk c.push_counts-in-Unreadable.result (λ _. vec_items c.push_counts-in-Unreadable.new.out ≡ vec_items c.args.out.now ++ answer_text a))
+    (sym c.in-Unreadable.is) c.push_counts-in-Unreadable.ensures

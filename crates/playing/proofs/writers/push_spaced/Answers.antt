@@ -13,7 +13,7 @@ loop-n-preserved c =
     let had = vec_items c.loop-n.out in
     let more = spaced (drop (i + 1) xs) in
     let one : spaced (drop i xs) ≡ (32 ∷ decimal n) ++ more = at_drop_more spaced xs i 0 c.loop-n-test.true in
-    let both = then_pushed had (vec_items c.push-text.new.out) (vec_items c.push-number.new.out) (32 ∷ []) (decimal n) c.in-ok-push-text.ensures c.in-ok-push-number.ensures.appends in
+    let both = then_pushed had (vec_items c.push_text.new.out) (vec_items c.push_number.new.out) (32 ∷ []) (decimal n) c.in_ok-push_text.ensures c.in_ok-push_number.ensures.appends in
     ap (λ l. l ++ more) both ∙ append_assoc had (32 ∷ decimal n) more ∙ ap (λ l. had ++ l) (sym one) ∙ c.loop-n.invariant
 
 pub returns : goal.returns

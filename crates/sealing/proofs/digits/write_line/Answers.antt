@@ -5,10 +5,10 @@ use Rattle.sealing.proofs.digits.write_line.Goals as goal
 pub loop-i-preserved : goal.loop-i-preserved
 loop-i-preserved c =
     let i = c.loop-i.i in
-    let x = c.hex-digit.result in
-    let y = c.hex-digit-in-loop-i.result in
+    let x = c.hex_digit.result in
+    let y = c.hex_digit-in-loop-i.result in
     ap (λ l. set (set l (2 * i) x) (2 * i + 1) y) c.loop-i.invariant
-    ∙ line_more c.args.bytes.now c.args.out.now i x y (omega arith) (omega arith) c.hex-digit.ensures c.hex-digit-in-loop-i.ensures
+    ∙ line_more c.args.bytes.now c.args.out.now i x y (omega arith) (omega arith) c.hex_digit.ensures c.hex_digit-in-loop-i.ensures
 
 pub returns : goal.returns
 returns c =

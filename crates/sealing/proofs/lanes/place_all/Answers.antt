@@ -11,7 +11,7 @@ loop-i-preserved g c =
     let input = c.args.input.now in
     let at = 16 * (i + 1) in
     let sixteen : at + 16 - at ≡ 16 = omega arith in
-    c.place-block.ensures.after
-    ∙ ap (λ v. next v (place-block i (take (at + 16 - at) (drop at input)))) c.place-key.ensures.after
-    ∙ ap₂ (λ v n. next (next v (place-key i (key_in input))) (place-block i (take n (drop at input)))) c.loop-i.invariant sixteen
+    c.place_block.ensures.after
+    ∙ ap (λ v. next v (place_block i (take (at + 16 - at) (drop at input)))) c.place_key.ensures.after
+    ∙ ap₂ (λ v n. next (next v (place_key i (key_in input))) (place_block i (take n (drop at input)))) c.loop-i.invariant sixteen
     ∙ ap (filled (view g.B.Bench c.args.unit.now) input) (sym (add-one i))

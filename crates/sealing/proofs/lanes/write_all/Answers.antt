@@ -11,9 +11,9 @@ pub loop-i-preserved : goal.loop-i-preserved
 loop-i-preserved g c =
     let i = c.loop-i.i in
     let f : ℕ → List ℕ = state_of (view g.B.Bench c.args.unit.now).model in
-    let line = c.write-line.new.out in
+    let line = c.write_line.new.out in
     let lt : i < c.args.count = omega arith in
     let size = 33 * i + 33 - 33 * i in
     let state : c.read.new.buffer ≡ f i = c.read.ensures.bytes ∙ ap (λ o. settled o (f i) (replicate 16 0)) (c.requires.1 i lt) in
     ap (λ o. put_mid (33 * i) size o line) c.loop-i.invariant
-    ∙ lines_more f c.args.out.now line i size (length_lines f i (λ k h. refl)) (omega arith) (c.write-line.ensures ∙ ap hex_line state)
+    ∙ lines_more f c.args.out.now line i size (length_lines f i (λ k h. refl)) (omega arith) (c.write_line.ensures ∙ ap hex_line state)

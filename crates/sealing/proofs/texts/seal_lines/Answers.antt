@@ -10,16 +10,16 @@ use Rattle.sealing.proofs.Filling.{lane_gives}
 use Rattle.sealing.proofs.Written.{length_lines, same_lines}
 use Rattle.sealing.proofs.texts.seal_lines.Goals as goal
 
-pub write-all-requires : goal.write-all-requires
-write-all-requires c =
+pub write_all-requires : goal.write_all-requires
+write_all-requires c =
     let input = c.args.input.now in
     let n = c.args.count in
     let m : Model = meaning ghosts c.new.result in
     let registers : m.registers ≡ 2048 = ap (λ (x : Model). x.registers) c.new.ensures.meaning in
     let left : m.left ≡ 1000000000 = ap (λ (x : Model). x.left) c.new.ensures.meaning in
-    let is = c.seal-all.ensures ∙ ap (λ v. turned (filled v input n)) c.new-unit.ensures.empty in (
+    let is = c.seal_all.ensures ∙ ap (λ v. turned (filled v input n)) c.new-unit.ensures.empty in (
       (omega arith, omega arith),
-      λ l lt. (lane_gives m _ _ input n (omega (arith, registers)) refl (omega (arith, left)) (omega arith) (omega arith) (omega arith) (λ j. omega (arith, c.type-inv.input j)) is l lt).accepted,
+      λ l lt. (lane_gives m _ _ input n (omega (arith, registers)) refl (omega (arith, left)) (omega arith) (omega arith) (omega arith) (λ j. omega (arith, c.type_inv.input j)) is l lt).accepted,
     )
 
 pub returns : goal.returns
@@ -29,12 +29,12 @@ returns c =
     let m : Model = meaning ghosts c.new.result in
     let registers : m.registers ≡ 2048 = ap (λ (x : Model). x.registers) c.new.ensures.meaning in
     let left : m.left ≡ 1000000000 = ap (λ (x : Model). x.left) c.new.ensures.meaning in
-    let is = c.seal-all.ensures ∙ ap (λ v. turned (filled v input n)) c.new-unit.ensures.empty in
-    let f : ℕ → List ℕ = state_of (view ghosts c.seal-all.new.unit).model in
+    let is = c.seal_all.ensures ∙ ap (λ v. turned (filled v input n)) c.new-unit.ensures.empty in
+    let f : ℕ → List ℕ = state_of (view ghosts c.seal_all.new.unit).model in
     let g : ℕ → List ℕ = λ i. encrypted aes128 (key_in input) (block_in input i) in
     let same : (l : ℕ) → l < n → f l ≡ g l = λ l lt.
-    (lane_gives m _ _ input n (omega (arith, registers)) refl (omega (arith, left)) (omega arith) (omega arith) (omega arith) (λ j. omega (arith, c.type-inv.input j)) is l lt).state in
+    (lane_gives m _ _ input n (omega (arith, registers)) refl (omega (arith, left)) (omega arith) (omega arith) (omega arith) (λ j. omega (arith, c.type_inv.input j)) is l lt).state in
     record {
-      text = c.write-all.ensures ∙ ap (λ l. l ++ drop (33 * n) c.args.out.now) (same_lines f g n same);
+      text = c.write_all.ensures ∙ ap (λ l. l ++ drop (33 * n) c.args.out.now) (same_lines f g n same);
       size = length_lines g n (λ i lt. ap length (sym (same i lt)));
     }

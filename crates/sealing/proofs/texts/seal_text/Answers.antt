@@ -11,9 +11,9 @@ returns c =
     let buffer : eqb (length out) 2112 ≡ true = eq-eqb (length out) 2112 (omega arith) in
     let taken : whole (length input) ≡ true = and_from (eqb (length input % 16) 0) _ (eq-eqb (length input % 16) 0 (omega arith)) (and_from (leb 32 (length input)) (leb (length input) 1040) (le-leb 32 (length input) (omega arith)) (le-leb (length input) 1040 (omega arith))) in
     let is : sealed_text input ≡ sealed_lines input n = cond-true (whole (length input)) _ _ taken in
-    let size : 33 * n ≡ length (sealed_text input) = sym c.seal-lines.ensures.size ∙ ap length (sym is) in
+    let size : 33 * n ≡ length (sealed_text input) = sym c.seal_lines.ensures.size ∙ ap length (sym is) in
     record {
       answer = ap Ok size ∙ sym (cond-true (eqb (length out) 2112) _ _ buffer);
-      text = c.seal-lines.ensures.text ∙ ap₂ (λ x k. x ++ drop k out) (sym is) size ∙ sym (cond-true (eqb (length out) 2112) _ _ buffer);
+      text = c.seal_lines.ensures.text ∙ ap₂ (λ x k. x ++ drop k out) (sym is) size ∙ sym (cond-true (eqb (length out) 2112) _ _ buffer);
       within = omega arith;
     }

@@ -6,15 +6,15 @@ use Rattle.standard.proofs.Loops.{round_more, ciphered_last, deciphered_ciphered
 use Rattle.standard.proofs.cipher.cipher.Goals as goal
 
 pub loop-n-init : goal.loop-n-init
-loop-n-init c = c.add-round-key-state.ensures ∙ ap (AddRoundKey c.args.block.now) c.key-in.ensures
+loop-n-init c = c.add_round_key-state.ensures ∙ ap (AddRoundKey c.args.block.now) c.key_in.ensures
 
 pub loop-n-preserved : goal.loop-n-preserved
 loop-n-preserved c = c.round-state.ensures ∙ round_more aes128 c.args.keys.now c.args.block.now c.loop-n.n c.loop-n.state (omega arith) c.loop-n.invariant
 
-is : (c : goal.After-add-round-key) → c.add-round-key.result ≡ ciphered aes128 c.args.keys.now c.args.block.now
+is : (c : goal.After-add_round_key) → c.add_round_key.result ≡ ciphered aes128 c.args.keys.now c.args.block.now
 is c =
-    let shifted = c.shift-rows-shifted.ensures ∙ ap ShiftRows c.sub-bytes.ensures in
-    c.add-round-key.ensures ∙ ap₂ AddRoundKey shifted c.key-in-2.ensures
+    let shifted = c.shift_rows-shifted.ensures ∙ ap ShiftRows c.sub_bytes.ensures in
+    c.add_round_key.ensures ∙ ap₂ AddRoundKey shifted c.key_in-2.ensures
     ∙ ciphered_last aes128 c.args.keys.now c.args.block.now c.loop-n.n c.loop-n.state (omega arith) c.loop-n.invariant
 
 pub returns : goal.returns

@@ -5,10 +5,10 @@ use Rattle.standard.proofs.Loops.{deciphered_decrypted}
 use Rattle.standard.proofs.UnderKeys.{encrypted_decrypted}
 use Rattle.standard.proofs.cipher.decrypt.Goals as goal
 
-is : (c : goal.After-inv-cipher) → c.inv-cipher.result ≡ decrypted aes128 c.args.key.now c.args.block.now
+is : (c : goal.After-inv_cipher) → c.inv_cipher.result ≡ decrypted aes128 c.args.key.now c.args.block.now
 is c =
-    c.inv-cipher.ensures.is
-    ∙ deciphered_decrypted aes128 c.args.key.now c.key-expansion.result c.args.block.now (λ n h. c.key-expansion.ensures n (omega arith))
+    c.inv_cipher.ensures.is
+    ∙ deciphered_decrypted aes128 c.args.key.now c.key_expansion.result c.args.block.now (λ n h. c.key_expansion.ensures n (omega arith))
 
 pub returns : goal.returns
 returns c =

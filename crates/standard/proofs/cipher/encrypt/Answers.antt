@@ -8,7 +8,7 @@ use Rattle.standard.proofs.cipher.encrypt.Goals as goal
 is : (c : goal.After-cipher) → c.cipher.result ≡ encrypted aes128 c.args.key.now c.args.block.now
 is c =
     c.cipher.ensures.is
-    ∙ ciphered_encrypted aes128 c.args.key.now c.key-expansion.result c.args.block.now (λ n h. c.key-expansion.ensures n (omega arith))
+    ∙ ciphered_encrypted aes128 c.args.key.now c.key_expansion.result c.args.block.now (λ n h. c.key_expansion.ensures n (omega arith))
 
 pub returns : goal.returns
 returns c =

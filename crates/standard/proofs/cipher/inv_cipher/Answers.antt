@@ -6,15 +6,15 @@ use Rattle.standard.proofs.Loops.{inv_round_more, deciphered_last, ciphered_deci
 use Rattle.standard.proofs.cipher.inv_cipher.Goals as goal
 
 pub loop-n-init : goal.loop-n-init
-loop-n-init c = c.add-round-key-state.ensures ∙ ap (AddRoundKey c.args.block.now) c.key-in.ensures
+loop-n-init c = c.add_round_key-state.ensures ∙ ap (AddRoundKey c.args.block.now) c.key_in.ensures
 
 pub loop-n-preserved : goal.loop-n-preserved
-loop-n-preserved c = c.inv-round-state.ensures ∙ inv_round_more aes128 c.args.keys.now c.args.block.now 10 c.loop-n.n c.loop-n.state c.loop-n.invariant
+loop-n-preserved c = c.inv_round-state.ensures ∙ inv_round_more aes128 c.args.keys.now c.args.block.now 10 c.loop-n.n c.loop-n.state c.loop-n.invariant
 
-is : (c : goal.After-add-round-key) → c.add-round-key.result ≡ deciphered aes128 c.args.keys.now c.args.block.now
+is : (c : goal.After-add_round_key) → c.add_round_key.result ≡ deciphered aes128 c.args.keys.now c.args.block.now
 is c =
-    let subbed = c.inv-sub-bytes-subbed.ensures ∙ ap InvSubBytes c.inv-shift-rows.ensures in
-    c.add-round-key.ensures ∙ ap₂ AddRoundKey subbed c.key-in-2.ensures
+    let subbed = c.inv_sub_bytes-subbed.ensures ∙ ap InvSubBytes c.inv_shift_rows.ensures in
+    c.add_round_key.ensures ∙ ap₂ AddRoundKey subbed c.key_in-2.ensures
     ∙ deciphered_last aes128 c.args.keys.now c.args.block.now c.loop-n.n c.loop-n.state (omega arith) c.loop-n.invariant
 
 pub returns : goal.returns

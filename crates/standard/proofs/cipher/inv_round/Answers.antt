@@ -4,5 +4,5 @@ use Rattle.standard.proofs.cipher.inv_round.Goals as goal
 
 pub returns : goal.returns
 returns c =
-    let subbed = c.inv-sub-bytes-subbed.ensures ∙ ap InvSubBytes c.inv-shift-rows.ensures in
-    c.inv-mix-columns.ensures ∙ ap InvMixColumns (c.add-round-key-added.ensures ∙ ap₂ AddRoundKey subbed c.key-in.ensures)
+    let subbed = c.inv_sub_bytes-subbed.ensures ∙ ap InvSubBytes c.inv_shift_rows.ensures in
+    c.inv_mix_columns.ensures ∙ ap InvMixColumns (c.add_round_key-added.ensures ∙ ap₂ AddRoundKey subbed c.key_in.ensures)

@@ -4,5 +4,5 @@ use Rattle.standard.proofs.cipher.round.Goals as goal
 
 pub returns : goal.returns
 returns c =
-    c.add-round-key.ensures
-    ∙ ap₂ AddRoundKey (c.mix-columns-mixed.ensures ∙ ap MixColumns (c.shift-rows.ensures ∙ ap ShiftRows c.sub-bytes.ensures)) c.key-in.ensures
+    c.add_round_key.ensures
+    ∙ ap₂ AddRoundKey (c.mix_columns-mixed.ensures ∙ ap MixColumns (c.shift_rows.ensures ∙ ap ShiftRows c.sub_bytes.ensures)) c.key_in.ensures

@@ -10,9 +10,9 @@ pub loop-p-init : goal.loop-p-init
 loop-p-init c = (refl, λ k h. absurd (omega arith))
 
 -- the byte that a turn writes
-written : (c : goal.After-next-byte) → (c.loop-p.p < 16) ⊎ (16 ≤ c.loop-p.p) → c.next-byte.result ≡ byte_of (byte_at c.args.key.now) c.loop-p.p
-written c (inl lt) = c.next-byte.ensures.first lt ∙ byte_first (byte_at c.args.key.now) c.loop-p.p lt
-written c (inr le) = c.next-byte.ensures.later le ∙ byte_later (byte_at c.args.key.now) (byte_at c.loop-p.words) c.loop-p.p le c.loop-p.invariant.1
+written : (c : goal.After-next_byte) → (c.loop-p.p < 16) ⊎ (16 ≤ c.loop-p.p) → c.next_byte.result ≡ byte_of (byte_at c.args.key.now) c.loop-p.p
+written c (inl lt) = c.next_byte.ensures.first lt ∙ byte_first (byte_at c.args.key.now) c.loop-p.p lt
+written c (inr le) = c.next_byte.ensures.later le ∙ byte_later (byte_at c.args.key.now) (byte_at c.loop-p.words) c.loop-p.p le c.loop-p.invariant.1
 
 pub loop-p-preserved : goal.loop-p-preserved
 loop-p-preserved c =
@@ -20,7 +20,7 @@ loop-p-preserved c =
     let p = c.loop-p.p in
     let f = byte_of (byte_at c.args.key.now) in
     let at : p < length xs = omega arith in (
-      length-set xs p c.next-byte.result ∙ c.loop-p.invariant.0,
+      length-set xs p c.next_byte.result ∙ c.loop-p.invariant.0,
       subst (λ (x : ℕ). (k : ℕ) → k < p + 1 → get_or (set xs p x) k 0 ≡ f k) (sym (written c (cases_lt p 16))) (fill_by_more f xs p 0 at c.loop-p.invariant.1),
     )
 

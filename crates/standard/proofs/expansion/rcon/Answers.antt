@@ -13,4 +13,4 @@ unfolding Rcon
 loop-i-init c = refl
 
 pub loop-i-preserved : goal.loop-i-preserved
-loop-i-preserved c = c.xtime-power.ensures ∙ ap xtime c.loop-i.invariant ∙ sym (Rcon_more c.loop-i.-i (omega arith))
+loop-i-preserved c = c.xtime-power.ensures ∙ ap xtime c.loop-i.invariant ∙ sym (Rcon_more c.loop-i._i (omega arith))

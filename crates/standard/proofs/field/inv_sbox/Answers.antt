@@ -5,7 +5,7 @@ use Rattle.standard.proofs.field.inv_sbox.Goals as goal
 
 is : (c : goal.After-inverse) → c.inverse.result ≡ InvSBox c.args.a
 unfolding InvSBox
-is c = c.inverse.ensures.is ∙ ap inverse c.inv-affine.ensures
+is c = c.inverse.ensures.is ∙ ap inverse c.inv_affine.ensures
 
 pub returns : goal.returns
 returns c = record { is = is c; undone = ap SBox (is c) ∙ SBox_InvSBox c.args.a (omega arith) }

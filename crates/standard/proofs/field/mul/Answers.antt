@@ -21,7 +21,7 @@ summed c =
 
 pub loop-i-preserved : goal.loop-i-preserved
 loop-i-preserved c =
-    let i = c.loop-i.-i in
+    let i = c.loop-i._i in
     let n = 8 - (i + 1) in
     let one_more : suc n ≡ 8 - i = omega arith in
     ap₂ (λ (p a : ℕ). bit_xor p (mul_by n a (c.loop-i.rest / 2))) (summed c) c.xtime-power.ensures
@@ -32,7 +32,7 @@ loop-i-preserved c =
 pub returns : goal.returns
 unfolding mul_by
 returns c =
-    let none : 0 ≡ 8 - c.loop-i.-i = omega arith in
+    let none : 0 ≡ 8 - c.loop-i._i = omega arith in
     sym (xor_zero_r c.loop-i.product)
     ∙ ap (λ (m : ℕ). bit_xor c.loop-i.product (mul_by m c.loop-i.power c.loop-i.rest)) none
     ∙ c.loop-i.invariant

@@ -15,7 +15,7 @@ loop-i-init c = (omega arith, omega arith)
 pub loop-i-preserved : goal.loop-i-preserved
 loop-i-preserved c =
     let t = c.loop-i.t in
-    let i = c.loop-i.-i in
+    let i = c.loop-i._i in
     let h : t < 256 = c.loop-i.invariant.1 in
     let hb : c.args.b < 256 = omega arith in
     let hi : i < 8 = omega arith in

@@ -9,7 +9,7 @@ pub loop-i-init : goal.loop-i-init
 loop-i-init c = (refl, λ k h. absurd (omega arith))
 
 pub loop-i-preserved : goal.loop-i-preserved
-loop-i-preserved c = filled_more c.loop-i.out (λ k. InvSBox (get_or c.args.state.now k 0)) c.loop-i.i _ c.loop-i.invariant c.loop-i-test.true c.inv-sbox.ensures.is
+loop-i-preserved c = filled_more c.loop-i.out (λ k. InvSBox (get_or c.args.state.now k 0)) c.loop-i.i _ c.loop-i.invariant c.loop-i-test.true c.inv_sbox.ensures.is
 
 pub returns : goal.returns
 returns c = filled_all c.loop-i.out (λ k. InvSBox (get_or c.args.state.now k 0)) c.loop-i.i c.loop-i.invariant c.loop-i-test.false ∙ sym (ap InvSubBytes (sixteen_at c.args.state.now c.told-state))

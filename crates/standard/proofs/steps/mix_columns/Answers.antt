@@ -4,4 +4,4 @@ use Rattle.standard.proofs.StateLaws.{bytes_from}
 use Rattle.standard.proofs.steps.mix_columns.Goals as goal
 
 pub returns : goal.returns
-returns c = c.by-columns.ensures ∙ sym (mix_is c.args.state.now (bytes_from c.args.state.now c.fits-state))
+returns c = c.by_columns.ensures ∙ sym (mix_is c.args.state.now (bytes_from c.args.state.now c.fits-state))

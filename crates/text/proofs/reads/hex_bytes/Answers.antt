@@ -15,4 +15,4 @@ returns c =
       | else-word-eq1-via-else-word-eq1 w ↦ λ l e. w.if-word-eq1.false l
     ] in
     let same : pairs_in xs ≡ bytes_in xs = sym (bytes_pairs xs some other) in
-    subst (λ (b : Option (List ℕ)). IfOk c.hex-pairs.result (λ o. option_map vec_items o ≡ b)) same c.hex-pairs.ensures
+    subst (λ (b : Option (List ℕ)). IfOk c.hex_pairs.result (λ o. option_map vec_items o ≡ b)) same c.hex_pairs.ensures

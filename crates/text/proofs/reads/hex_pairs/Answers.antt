@@ -9,12 +9,12 @@ returns-then-word-ne0 c =
     let odd : length c.args.word.now % 2 ≡ 1 = omega (arith, c.if-word-ne0.true) in
     sym (pairs_odd c.args.word.now odd)
 
-pub returns-in-default : goal.returns-in-default
-returns-in-default c =
+pub returns-in_default : goal.returns-in_default
+returns-in_default c =
     let xs = c.args.word.now in
     let i = c.loop-i.i in
     let less : 2 * i + 1 < length xs = omega arith in
-    let bad : pair_value (hex_value (get_or xs (2 * i) 0)) (hex_value (get_or xs (2 * i + 1) 0)) ≡ None = sym c.in-default.ensures in
+    let bad : pair_value (hex_value (get_or xs (2 * i) 0)) (hex_value (get_or xs (2 * i + 1) 0)) ≡ None = sym c.in_default.ensures in
     sym (c.loop-i.invariant ∙ pair_bad xs i less (vec_items c.loop-i.bytes) bad)
 
 pub loop-i-preserved : goal.loop-i-preserved
@@ -26,7 +26,7 @@ loop-i-preserved c =
     let one : pair_value (hex_value (get_or xs (2 * i) 0)) (hex_value (get_or xs (2 * i + 1) 0)) ≡ Some b = sym c.in-Some.ensures in
     c.loop-i.invariant
     ∙ pair_more xs i less (vec_items c.loop-i.bytes) b one
-    ∙ ap (λ l. prefixed l (pairs_in (drop (2 * (i + 1)) xs))) (sym c.in-ok-push.ensures.items)
+    ∙ ap (λ l. prefixed l (pairs_in (drop (2 * (i + 1)) xs))) (sym c.in_ok-push.ensures.items)
 
 pub returns : goal.returns
 returns c =

@@ -19,14 +19,14 @@ returns-then-byte-lt48 c =
     let one : all_digits (drop i xs) ≡ (is_digit b && all_digits (drop (i + 1) xs)) = at_drop_more all_digits xs i 0 c.loop-byte-test.true in
     sym (not_digits xs (c.loop-byte.invariant.1 ∙ one ∙ and_left (is_digit b) (all_digits (drop (i + 1) xs)) bad))
 
-pub returns-in-err-value : goal.returns-in-err-value
-returns-in-err-value c =
+pub returns-in_err-value : goal.returns-in_err-value
+returns-in_err-value c =
     let xs = c.args.word.now in
     let i = c.loop-byte.byte-index in
     let n = c.loop-byte.value * 10 + (get_or xs i 0 - 48) in
     let one : value_after c.loop-byte.value (drop i xs) ≡ value_after n (drop (i + 1) xs) = at_drop_more (value_after c.loop-byte.value) xs i 0 c.loop-byte-test.true in
-    let said : c.with-digit.result ≡ cond (ltb n (2 ^ 64)) (Some n) None = c.with-digit.ensures in
-    let none : c.with-digit.result ≡ None = c.in-err-value.was in
+    let said : c.with_digit.result ≡ cond (ltb n (2 ^ 64)) (Some n) None = c.with_digit.ensures in
+    let none : c.with_digit.result ≡ None = c.in_err-value.was in
     let large : 2 ^ 64 ≤ n =
     elim (cases_lt n (2 ^ 64)) [
       | inl l ↦ absurd (let yes-some = cond-true (ltb n (2 ^ 64)) (Some n) None (lt-ltb n (2 ^ 64) l) in let z : ◌≡◌ {A = ℕ} 0 1 = cc in omega arith)
@@ -43,12 +43,12 @@ loop-byte-preserved c =
     let digit : is_digit b ≡ true = and_from (leb 48 b) (leb b 57) (le-leb 48 b c.if-byte-lt48.false) (le-leb b 57 c.if-byte-gt57.false) in
     let digits : all_digits (drop i xs) ≡ (is_digit b && all_digits (drop (i + 1) xs)) = at_drop_more all_digits xs i 0 c.loop-byte-test.true in
     let value : value_after c.loop-byte.value (drop i xs) ≡ value_after n (drop (i + 1) xs) = at_drop_more (value_after c.loop-byte.value) xs i 0 c.loop-byte-test.true in
-    let said : c.with-digit.result ≡ cond (ltb n (2 ^ 64)) (Some n) None = c.with-digit.ensures in
-    let some : c.with-digit.result ≡ Some c.in-ok-value.value = c.in-ok-value.was in
+    let said : c.with_digit.result ≡ cond (ltb n (2 ^ 64)) (Some n) None = c.with_digit.ensures in
+    let some : c.with_digit.result ≡ Some c.in_ok-value.value = c.in_ok-value.was in
     elim (cases_lt n (2 ^ 64)) [
       | inl l ↦
           let is = cond-true (ltb n (2 ^ 64)) (Some n) None (lt-ltb n (2 ^ 64) l) in
-          let same : n ≡ c.in-ok-value.value = cc in
+          let same : n ≡ c.in_ok-value.value = cc in
           (omega arith, c.loop-byte.invariant.1 ∙ digits ∙ ap (λ x. x && all_digits (drop (i + 1) xs)) digit, c.loop-byte.invariant.2 ∙ value ∙ ap (λ m. value_after m (drop (i + 1) xs)) same)
       | inr l ↦ absurd (let is = cond-false (ltb n (2 ^ 64)) (Some n) None (le-ltb n (2 ^ 64) l) in let z : ◌≡◌ {A = ℕ} 0 1 = cc in omega arith)
     ]

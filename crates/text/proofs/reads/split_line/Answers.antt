@@ -6,15 +6,15 @@ use Rattle.text.proofs.reads.split_line.Goals as goal
 pub returns-then-end-text : goal.returns-then-end-text
 returns-then-end-text c =
     let xs = c.args.text.now in
-    let all : length xs ≤ before 10 xs = omega (arith, c.count-before-end.ensures.value) in
+    let all : length xs ≤ before 10 xs = omega (arith, c.count_before-end.ensures.value) in
     record { line = sym (take_all (before 10 xs) xs all); rest = sym (drop_all (before 10 xs + 1) xs (omega arith)) }
 
 pub returns-else-end-text : goal.returns-else-end-text
 returns-else-end-text c =
     let xs = c.args.text.now in
-    let end = c.count-before-end.result in
-    let same : end - 0 ≡ before 10 xs = omega (arith, c.count-before-end.ensures.value) in
+    let end = c.count_before-end.result in
+    let same : end - 0 ≡ before 10 xs = omega (arith, c.count_before-end.ensures.value) in
     record {
       line = ap (λ k. take k xs) same;
-      rest = take_rest xs (end + 1) ∙ ap (λ k. drop (k + 1) xs) c.count-before-end.ensures.value;
+      rest = take_rest xs (end + 1) ∙ ap (λ k. drop (k + 1) xs) c.count_before-end.ensures.value;
     }

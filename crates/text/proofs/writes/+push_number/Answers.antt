@@ -3,27 +3,27 @@ use Rattle.std.proofs.lemmas.Result.{IfOk-from_err}
 use Rattle.text.specs.Text.{decimal}
 use Rattle.text.proofs.Decimals.{decimal_one, decimal_more, reads_back}
 use Rattle.text.proofs.writes.+push_number.Goals as goal
-use Rattle.text.proofs.writes.+push_number.Goals.{then-n-ge10+in-ok-push-number, else-n-ge10}
+use Rattle.text.proofs.writes.+push_number.Goals.{then-n-ge10+in_ok-push_number, else-n-ge10}
 
-pub returns-in-err-push-number : goal.returns-in-err-push-number
-returns-in-err-push-number t c = record { appends = IfOk-from_err _ _ c.from-residual.ensures.0; reads_back = reads_back c.args.n (omega arith) }
+pub returns-in_err-push_number : goal.returns-in_err-push_number
+returns-in_err-push_number t c = record { appends = IfOk-from_err _ _ c.from-residual.ensures.0; reads_back = reads_back c.args.n (omega arith) }
 
-pub returns-in-err-push : goal.returns-in-err-push
-returns-in-err-push t c = record { appends = IfOk-from_err _ _ c.from-residual-in-err-push.ensures.0; reads_back = reads_back c.args.n (omega arith) }
+pub returns-in_err-push : goal.returns-in_err-push
+returns-in_err-push t c = record { appends = IfOk-from_err _ _ c.from-residual-in_err-push.ensures.0; reads_back = reads_back c.args.n (omega arith) }
 
 pub returns : goal.returns
 returns t c =
     let n = c.args.n in
     let small : n < 2 ^ 64 = omega arith in
     let start = vec_items c.args.out.now in
-    let last = c.in-ok-push.ensures.items in
+    let last = c.in_ok-push.ensures.items in
     record {
       appends =
           elim c.if-n-ge10.branch [
-            | then-n-ge10+in-ok-push-number w ↦
+            | then-n-ge10+in_ok-push_number w ↦
                 last
                 ∙ ap (λ v. vec_items v ++ ((48 + n % 10) ∷ [])) w.out-is
-                ∙ ap (λ l. l ++ ((48 + n % 10) ∷ [])) w.in-ok-push-number.ensures.appends
+                ∙ ap (λ l. l ++ ((48 + n % 10) ∷ [])) w.in_ok-push_number.ensures.appends
                 ∙ append_assoc start (decimal (n / 10)) ((48 + n % 10) ∷ [])
                 ∙ ap (λ l. start ++ l) (sym (decimal_more n (omega (arith, w.if-n-ge10.true)) small))
             | else-n-ge10 w ↦

@@ -12,11 +12,11 @@ loop-byte-preserved c =
     let had = vec_items c.loop-byte.out in
     let more = hex_pairs (drop (i + 1) xs) in
     let one : hex_pairs (drop i xs) ≡ hex_digit (b / 16) ∷ hex_digit (b % 16) ∷ more = at_drop_more hex_pairs xs i 0 c.loop-byte-test.true in
-    let first = c.in-ok-push.ensures.items in
-    let second = c.in-ok-push-2.ensures.items in
+    let first = c.in_ok-push.ensures.items in
+    let second = c.in_ok-push-2.ensures.items in
     ap (λ l. l ++ more) second
-    ∙ ap (λ l. l ++ (c.hex-digit-in-loop-byte.result ∷ []) ++ more) first
-    ∙ ap₂ (λ x y. (had ++ (x ∷ [])) ++ (y ∷ []) ++ more) c.hex-digit.ensures c.hex-digit-in-loop-byte.ensures
+    ∙ ap (λ l. l ++ (c.hex_digit-in-loop-byte.result ∷ []) ++ more) first
+    ∙ ap₂ (λ x y. (had ++ (x ∷ [])) ++ (y ∷ []) ++ more) c.hex_digit.ensures c.hex_digit-in-loop-byte.ensures
     ∙ append_assoc (had ++ (hex_digit (b / 16) ∷ [])) (hex_digit (b % 16) ∷ []) more
     ∙ append_assoc had (hex_digit (b / 16) ∷ []) (hex_digit (b % 16) ∷ more)
     ∙ ap (λ l. had ++ l) (sym one)

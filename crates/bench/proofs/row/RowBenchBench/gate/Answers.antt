@@ -4,8 +4,8 @@ use Rattle.bench.specs.Row.{fit, row_lanes, row_model, rest, rows_done}
 use Rattle.bench.proofs.RowModels.{in_bytes, in_row, rows_fit, row_gated, row_rest}
 use Rattle.bench.proofs.row.RowBenchBench.gate.Goals as goal
 
-pub gate-rows-requires : goal.gate-rows-requires
-gate-rows-requires c =
+pub gate_rows-requires : goal.gate_rows-requires
+gate_rows-requires c =
     let n = length c.args.self.now.bytes.now in
     let w = fit c.args.self.now.width in
     let room : c.rows-rows.result * c.row-row.result ≤ n =
@@ -24,7 +24,7 @@ returns c =
     let ht : t < 8 * fit width = omega arith in
     let ha : a < 8 * fit width = omega arith in
     let hb : b < 8 * fit width = omega arith in
-    let done = c.gate-rows.ensures ∙ ap₂ (λ w n. rows_done k t a b w n bytes) c.row-row.ensures c.rows-rows.ensures in
+    let done = c.gate_rows.ensures ∙ ap₂ (λ w n. rows_done k t a b w n bytes) c.row-row.ensures c.rows-rows.ensures in
     let leaves = ap₂ (λ x n. row_model x width (n - 1)) done c.left-left.ensures ∙ row_gated bytes width left k t a b ht ha hb in
     record {
       answer = search rules;

@@ -16,10 +16,10 @@ returns g c =
     let a = c.args.a in
     let b = c.args.b in
     let ok : c.gate-2.result ≡ Ok tt = c.gate-2.ensures.answer ∙ gate_accepted n t a b (omega arith) (omega arith) (omega arith) (omega arith) in
-    let left = c.in-ok-gate.ensures.leaves in
+    let left = c.in_ok-gate.ensures.leaves in
     let right = c.gate-2.ensures.leaves ∙ ap (λ r. after r (gated k t a b n) n) ok in
     record {
       answer = search rules;
       leaves = ap₂ side_model left right ∙ side_gated m n k t a b (omega arith) (omega arith) (omega arith) ∙ sym (ap (λ r. after r (gated k t a b (side_model m n)) (side_model m n)) ok);
-      beneath = ap₂ both c.in-ok-gate.ensures.beneath (c.gate-2.ensures.beneath ∙ ap (λ r. after r (gated_in k t a b y) y) ok) ∙ sym (ap (λ r. after r (gated_in k t a b (both x y)) (both x y)) ok);
+      beneath = ap₂ both c.in_ok-gate.ensures.beneath (c.gate-2.ensures.beneath ∙ ap (λ r. after r (gated_in k t a b y) y) ok) ∙ sym (ap (λ r. after r (gated_in k t a b (both x y)) (both x y)) ok);
     }

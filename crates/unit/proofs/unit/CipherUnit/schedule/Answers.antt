@@ -9,26 +9,26 @@ use Rattle.unit.proofs.Settled.{stays, becomes, accepted, refused, scheduling_te
 use Rattle.unit.proofs.Planned.{plan_expands, plan_accepted, every_lane, no_lane}
 use Rattle.unit.proofs.unit.CipherUnit.schedule.Goals as goal
 
-pub returns-in-err-may-schedule : goal.returns-in-err-may-schedule
-returns-in-err-may-schedule g c =
-    let said = c.in-err-may-schedule.ensures in
+pub returns-in_err-may_schedule : goal.returns-in_err-may_schedule
+returns-in_err-may_schedule g c =
+    let said = c.in_err-may_schedule.ensures in
     record { answer = search rules; after = stays tt _ _ _ _ said; expanded = no_lane _ _ _ _ (refused tt _ _ said) }
 
-pub returns-in-err-schedule-all : goal.returns-in-err-schedule-all
-returns-in-err-schedule-all g c =
+pub returns-in_err-schedule_all : goal.returns-in_err-schedule_all
+returns-in_err-schedule_all g c =
     let u = c.args.self.now in
     let s = shape_of g.B.Bench u in
     let m = meaning g.B.Bench u.bench in
-    let asked = accepted tt tt (scheduling s) c.in-ok-may-schedule.ensures in
-    absurd (never (c.in-err-schedule-all.ensures.answer ∙ plan_accepted s m (schedule_plan kind) refl refl (scheduling_fits s asked) (scheduling_tells s asked).1))
+    let asked = accepted tt tt (scheduling s) c.in_ok-may_schedule.ensures in
+    absurd (never (c.in_err-schedule_all.ensures.answer ∙ plan_accepted s m (schedule_plan kind) refl refl (scheduling_fits s asked) (scheduling_tells s asked).1))
 
 pub returns : goal.returns
 returns g c =
     let u = c.args.self.now in
     let m = meaning g.B.Bench u.bench in
-    let said = c.in-ok-may-schedule.ensures in
+    let said = c.in_ok-may_schedule.ensures in
     let asked = accepted tt tt (scheduling (shape_of g.B.Bench u)) said in
-    let done = c.in-ok-schedule-all.ensures in
+    let done = c.in_ok-schedule_all.ensures in
     record {
       answer = search rules;
       after = becomes tt tt _ _ _ _ said (λ i. record { model = done.leaves i; beneath = done.beneath i; records = c.schedule.ensures i });
