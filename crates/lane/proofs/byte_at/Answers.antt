@@ -4,13 +4,13 @@ use Rattle.standard.specs.Bits.{byte_of}
 use Rattle.lane.proofs.Bytes.{upper, upper_lt, byte_small, upper_more}
 use Rattle.lane.proofs.byte_at.Goals as goal
 
-pub overflow-mul-byte : goal.overflow-mul-byte
-overflow-mul-byte g c =
+pub overflow_mul-byte : goal.overflow_mul-byte
+overflow_mul-byte g c =
     let f : ℕ → Bool = λ i. (g.B.Bench.shows c.args.bench.now).bit (c.args.base + i) c.args.lane in
     omega (arith, c.loop-i.invariant, upper_lt f c.loop-i.i (omega arith))
 
-pub overflow-add-byte : goal.overflow-add-byte
-overflow-add-byte g c =
+pub overflow_add-byte : goal.overflow_add-byte
+overflow_add-byte g c =
     let f : ℕ → Bool = λ i. (g.B.Bench.shows c.args.bench.now).bit (c.args.base + i) c.args.lane in
     omega (arith, c.loop-i.invariant, upper_lt f c.loop-i.i (omega arith), byte_small c.bit_at.result)
 
