@@ -14,7 +14,7 @@ returns-in_err-play g c =
     let m = told g.B.Bench.registers g.B.Bench.lanes g.B.Bench.left g.B.Bench.shows in
     let inv = c.args.inverter.now in let xs = c.args.plan.now in let i = c.loop-p.p-index in
     let said = c.in_err-play.ensures in
-    let exit = err_from_is_err_and c.from-residual.result c.from-residual.ensures.1 in
+    let exit = err_from_is_err_and c.from_residual.result c.from_residual.ensures.1 in
     record {
       answer = exit.1 ∙ ap Err exit.2 ∙ sym (c.loop-p.invariant.0 ∙ answer_stops inv xs i _ c.loop-p-test.true (m c.loop-p.bench) c.page.ensures c.bases.ensures _ said.answer);
       leaves = said.leaves ∙ sym (c.loop-p.invariant.1 ∙ carried_stops inv xs i _ c.loop-p-test.true (m c.loop-p.bench) c.page.ensures c.bases.ensures _ said.answer (do_play inv) (m c.loop-p.bench));

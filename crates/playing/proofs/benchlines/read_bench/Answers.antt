@@ -23,7 +23,7 @@ returns-in_err-first c =
     let ws = drop 1 (words_in l) in
     let rest : words_in c.split_word.result.1.now ≡ ws = ap words_in c.split_word.ensures.rest ∙ later_words l in
     let none : single_in ws ≡ None = ap single_in (sym rest) ∙ c.in_err-first.ensures in
-    c.from-residual.ensures
+    c.from_residual.ensures
     ∙ sym (cond-true _ (first_in (single_in ws) ws) None (named l w word (codes "bench") _ true c.is_word.ensures c.if-not-is_word.false) ∙ ap (λ o. first_in o ws) none)
 
 pub returns : goal.returns

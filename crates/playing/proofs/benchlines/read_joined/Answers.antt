@@ -27,7 +27,7 @@ returns-in_err-second c =
     let from : words_in c.past_bench.result.now ≡ ps = c.past_bench.ensures ∙ ap past_bench (ap words_in c.split_word.ensures.rest ∙ later_words l) in
     let whole = joined_is (words_in l) s (has_words l w word c.if-is_empty.ensures) (named l w word (codes "+") _ true c.is_word.ensures c.if-not-is_word.false) in
     let none : single_in ps ≡ None = ap single_in (sym from) ∙ c.in_err-second.ensures in
-    c.from-residual.ensures ∙ sym (whole ∙ ap (λ o. second_in s o ps) none)
+    c.from_residual.ensures ∙ sym (whole ∙ ap (λ o. second_in s o ps) none)
 
 pub returns-then-not-is_empty : goal.returns-then-not-is_empty
 returns-then-not-is_empty c =

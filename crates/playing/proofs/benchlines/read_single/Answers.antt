@@ -16,7 +16,7 @@ returns-in_err-registers c =
     let r₀ = c.split_word.result.1.now in
     let e₀ : words_in r₀ ≡ drop 1 ws = ap words_in c.split_word.ensures.rest ∙ later_words l in
     let n₁ : number_in (get_or ws 1 []) ≡ None = ap number_in (sym (at_word ws 1 r₀ e₀)) ∙ c.in_err-registers.ensures in
-    rw c.from-residual.ensures (word_is ws None (number_in (get_or ws 2 [])) word n₁ refl)
+    rw c.from_residual.ensures (word_is ws None (number_in (get_or ws 2 [])) word n₁ refl)
 
 pub returns-in_err-allotment : goal.returns-in_err-allotment
 returns-in_err-allotment c =
@@ -30,7 +30,7 @@ returns-in_err-allotment c =
     let r₁ = c.in_ok-registers.rest.now in
     let e₁ : words_in r₁ ≡ drop 2 ws = ap words_in c.in_ok-registers.ensures.1 ∙ past_word ws 1 r₀ e₀ in
     let n₂ : number_in (get_or ws 2 []) ≡ None = ap number_in (sym (at_word ws 2 r₁ e₁)) ∙ c.in_err-allotment.ensures in
-    rw c.from-residual-in_err-allotment.ensures (word_is ws (Some c.in_ok-registers.registers) None word n₁ n₂)
+    rw c.from_residual-in_err-allotment.ensures (word_is ws (Some c.in_ok-registers.registers) None word n₁ n₂)
 
 pub returns-then-is_word : goal.returns-then-is_word
 returns-then-is_word c =
@@ -58,7 +58,7 @@ returns-in_err-width c =
     let r₀ = c.split_word.result.1.now in
     let e₀ : words_in r₀ ≡ drop 1 ws = ap words_in c.split_word.ensures.rest ∙ later_words l in
     let n₁ : number_in (get_or ws 1 []) ≡ None = ap number_in (sym (at_word ws 1 r₀ e₀)) ∙ c.in_err-width.ensures in
-    rw c.from-residual-in_err-width.ensures (row_is ws None (number_in (get_or ws 2 [])) (number_in (get_or ws 3 [])) word row n₁ refl refl)
+    rw c.from_residual-in_err-width.ensures (row_is ws None (number_in (get_or ws 2 [])) (number_in (get_or ws 3 [])) word row n₁ refl refl)
 
 pub returns-in_err-bytes : goal.returns-in_err-bytes
 returns-in_err-bytes c =
@@ -73,7 +73,7 @@ returns-in_err-bytes c =
     let r₁ = c.in_ok-width.rest.now in
     let e₁ : words_in r₁ ≡ drop 2 ws = ap words_in c.in_ok-width.ensures.1 ∙ past_word ws 1 r₀ e₀ in
     let n₂ : number_in (get_or ws 2 []) ≡ None = ap number_in (sym (at_word ws 2 r₁ e₁)) ∙ c.in_err-bytes.ensures in
-    rw c.from-residual-in_err-bytes.ensures (row_is ws (Some c.in_ok-width.width) None (number_in (get_or ws 3 [])) word row n₁ n₂ refl)
+    rw c.from_residual-in_err-bytes.ensures (row_is ws (Some c.in_ok-width.width) None (number_in (get_or ws 3 [])) word row n₁ n₂ refl)
 
 pub returns-in_err-allotment-2 : goal.returns-in_err-allotment-2
 returns-in_err-allotment-2 c =
@@ -91,7 +91,7 @@ returns-in_err-allotment-2 c =
     let r₂ = c.in_ok-bytes.rest.now in
     let e₂ : words_in r₂ ≡ drop 3 ws = ap words_in c.in_ok-bytes.ensures.1 ∙ past_word ws 2 r₁ e₁ in
     let n₃ : number_in (get_or ws 3 []) ≡ None = ap number_in (sym (at_word ws 3 r₂ e₂)) ∙ c.in_err-allotment-2.ensures in
-    rw c.from-residual-in_err-allotment-2.ensures (row_is ws (Some c.in_ok-width.width) (Some c.in_ok-bytes.bytes) None word row n₁ n₂ n₃)
+    rw c.from_residual-in_err-allotment-2.ensures (row_is ws (Some c.in_ok-width.width) (Some c.in_ok-bytes.bytes) None word row n₁ n₂ n₃)
 
 pub returns-then-is_word-2 : goal.returns-then-is_word-2
 returns-then-is_word-2 c =

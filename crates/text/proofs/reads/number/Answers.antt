@@ -32,7 +32,7 @@ returns-in_err-value c =
       | inl l ↦ absurd (let yes-some = cond-true (ltb n (2 ^ 64)) (Some n) None (lt-ltb n (2 ^ 64) l) in let z : ◌≡◌ {A = ℕ} 0 1 = cc in omega arith)
       | inr l ↦ l
     ] in
-    rw c.from-residual.ensures (sym (too_large xs (omega (arith, c.loop-byte.invariant.2, value_grows n (drop (i + 1) xs)))))
+    rw c.from_residual.ensures (sym (too_large xs (omega (arith, c.loop-byte.invariant.2, value_grows n (drop (i + 1) xs)))))
 
 pub loop-byte-preserved : goal.loop-byte-preserved
 loop-byte-preserved c =

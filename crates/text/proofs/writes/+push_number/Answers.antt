@@ -6,10 +6,10 @@ use Rattle.text.proofs.writes.+push_number.Goals as goal
 use Rattle.text.proofs.writes.+push_number.Goals.{then-n-ge10+in_ok-push_number, else-n-ge10}
 
 pub returns-in_err-push_number : goal.returns-in_err-push_number
-returns-in_err-push_number t c = record { appends = IfOk-from_err _ _ c.from-residual.ensures.0; reads_back = reads_back c.args.n (omega arith) }
+returns-in_err-push_number t c = record { appends = IfOk-from_err _ _ c.from_residual.ensures.0; reads_back = reads_back c.args.n (omega arith) }
 
 pub returns-in_err-push : goal.returns-in_err-push
-returns-in_err-push t c = record { appends = IfOk-from_err _ _ c.from-residual-in_err-push.ensures.0; reads_back = reads_back c.args.n (omega arith) }
+returns-in_err-push t c = record { appends = IfOk-from_err _ _ c.from_residual-in_err-push.ensures.0; reads_back = reads_back c.args.n (omega arith) }
 
 pub returns : goal.returns
 returns t c =
