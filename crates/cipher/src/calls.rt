@@ -25,10 +25,10 @@ fn sized(registers: u16, lanes: u16) -> bool
 // Asks whether the bench has the size, and then whether enough gates are left; then plays the plan.
 fn ask_and_play<B: Bench>(bench: &mut B, plan: &[Play], needed: u32) -> Result<(), Fault>
     requires { (fit own_inverter (room aes128) plan.now ≡ true) × (needed ≡ plan_gates own_inverter plan.now) }
-    ensures answer { result ≡ plan_answer own_inverter aes128 plan.now (told registers lanes left shows bench.old) }
-    ensures leaves { told registers lanes left shows bench.new ≡ after result (planned own_inverter plan.now (told registers lanes left shows bench.old)) (told registers lanes left shows bench.old) }
-    ensures beneath { beneath bench.new ≡ after result (planned_in own_inverter plan.now (beneath bench.old)) (beneath bench.old) }
-    ensures fallen { Given (Fallen (plan_gates own_inverter plan.now)) result (told registers lanes left shows bench.old) (told registers lanes left shows bench.new) }
+    ensures answer { result ≡ plan_answer own_inverter aes128 plan.now (told B.registers B.lanes B.left B.shows bench.old) }
+    ensures leaves { told B.registers B.lanes B.left B.shows bench.new ≡ after result (planned own_inverter plan.now (told B.registers B.lanes B.left B.shows bench.old)) (told B.registers B.lanes B.left B.shows bench.old) }
+    ensures beneath { B.beneath bench.new ≡ after result (planned_in own_inverter plan.now (B.beneath bench.old)) (B.beneath bench.old) }
+    ensures fallen { Given (Fallen (plan_gates own_inverter plan.now)) result (told B.registers B.lanes B.left B.shows bench.old) (told B.registers B.lanes B.left B.shows bench.new) }
 {
     if !sized(bench.registers(), bench.lanes()) {
         return Err(Fault {
@@ -46,34 +46,34 @@ fn ask_and_play<B: Bench>(bench: &mut B, plan: &[Play], needed: u32) -> Result<(
 
 // The key of each lane becomes its round keys.
 pub fn schedule_all<B: Bench>(bench: &mut B) -> Result<(), Fault>
-    ensures answer { result ≡ plan_answer own_inverter aes128 (schedule_plan aes128) (told registers lanes left shows bench.old) }
-    ensures leaves { told registers lanes left shows bench.new ≡ after result (planned own_inverter (schedule_plan aes128) (told registers lanes left shows bench.old)) (told registers lanes left shows bench.old) }
-    ensures beneath { beneath bench.new ≡ after result (planned_in own_inverter (schedule_plan aes128) (beneath bench.old)) (beneath bench.old) }
-    ensures fallen { Given (Fallen (plan_gates own_inverter (schedule_plan aes128))) result (told registers lanes left shows bench.old) (told registers lanes left shows bench.new) }
-    ensures scheduled { Given (Schedules aes128) result (told registers lanes left shows bench.old) (told registers lanes left shows bench.new) }
+    ensures answer { result ≡ plan_answer own_inverter aes128 (schedule_plan aes128) (told B.registers B.lanes B.left B.shows bench.old) }
+    ensures leaves { told B.registers B.lanes B.left B.shows bench.new ≡ after result (planned own_inverter (schedule_plan aes128) (told B.registers B.lanes B.left B.shows bench.old)) (told B.registers B.lanes B.left B.shows bench.old) }
+    ensures beneath { B.beneath bench.new ≡ after result (planned_in own_inverter (schedule_plan aes128) (B.beneath bench.old)) (B.beneath bench.old) }
+    ensures fallen { Given (Fallen (plan_gates own_inverter (schedule_plan aes128))) result (told B.registers B.lanes B.left B.shows bench.old) (told B.registers B.lanes B.left B.shows bench.new) }
+    ensures scheduled { Given (Schedules aes128) result (told B.registers B.lanes B.left B.shows bench.old) (told B.registers B.lanes B.left B.shows bench.new) }
 {
     ask_and_play(bench, schedule_plan(), schedule_gates())
 }
 
 // The block of each lane becomes its cipher under the lane's round keys.
 pub fn seal_all<B: Bench>(bench: &mut B) -> Result<(), Fault>
-    ensures answer { result ≡ plan_answer own_inverter aes128 (seal_plan aes128) (told registers lanes left shows bench.old) }
-    ensures leaves { told registers lanes left shows bench.new ≡ after result (planned own_inverter (seal_plan aes128) (told registers lanes left shows bench.old)) (told registers lanes left shows bench.old) }
-    ensures beneath { beneath bench.new ≡ after result (planned_in own_inverter (seal_plan aes128) (beneath bench.old)) (beneath bench.old) }
-    ensures fallen { Given (Fallen (plan_gates own_inverter (seal_plan aes128))) result (told registers lanes left shows bench.old) (told registers lanes left shows bench.new) }
-    ensures stages { StagesStand own_inverter aes128 (told registers lanes left shows bench.old) }
-    ensures sealed { Given (Seals aes128) result (told registers lanes left shows bench.old) (told registers lanes left shows bench.new) }
+    ensures answer { result ≡ plan_answer own_inverter aes128 (seal_plan aes128) (told B.registers B.lanes B.left B.shows bench.old) }
+    ensures leaves { told B.registers B.lanes B.left B.shows bench.new ≡ after result (planned own_inverter (seal_plan aes128) (told B.registers B.lanes B.left B.shows bench.old)) (told B.registers B.lanes B.left B.shows bench.old) }
+    ensures beneath { B.beneath bench.new ≡ after result (planned_in own_inverter (seal_plan aes128) (B.beneath bench.old)) (B.beneath bench.old) }
+    ensures fallen { Given (Fallen (plan_gates own_inverter (seal_plan aes128))) result (told B.registers B.lanes B.left B.shows bench.old) (told B.registers B.lanes B.left B.shows bench.new) }
+    ensures stages { StagesStand own_inverter aes128 (told B.registers B.lanes B.left B.shows bench.old) }
+    ensures sealed { Given (Seals aes128) result (told B.registers B.lanes B.left B.shows bench.old) (told B.registers B.lanes B.left B.shows bench.new) }
 {
     ask_and_play(bench, seal_plan(), seal_gates())
 }
 
 // The block of each lane becomes its inverse cipher under the lane's round keys.
 pub fn open_all<B: Bench>(bench: &mut B) -> Result<(), Fault>
-    ensures answer { result ≡ plan_answer own_inverter aes128 (open_plan aes128) (told registers lanes left shows bench.old) }
-    ensures leaves { told registers lanes left shows bench.new ≡ after result (planned own_inverter (open_plan aes128) (told registers lanes left shows bench.old)) (told registers lanes left shows bench.old) }
-    ensures beneath { beneath bench.new ≡ after result (planned_in own_inverter (open_plan aes128) (beneath bench.old)) (beneath bench.old) }
-    ensures fallen { Given (Fallen (plan_gates own_inverter (open_plan aes128))) result (told registers lanes left shows bench.old) (told registers lanes left shows bench.new) }
-    ensures opened { Given (Opens aes128) result (told registers lanes left shows bench.old) (told registers lanes left shows bench.new) }
+    ensures answer { result ≡ plan_answer own_inverter aes128 (open_plan aes128) (told B.registers B.lanes B.left B.shows bench.old) }
+    ensures leaves { told B.registers B.lanes B.left B.shows bench.new ≡ after result (planned own_inverter (open_plan aes128) (told B.registers B.lanes B.left B.shows bench.old)) (told B.registers B.lanes B.left B.shows bench.old) }
+    ensures beneath { B.beneath bench.new ≡ after result (planned_in own_inverter (open_plan aes128) (B.beneath bench.old)) (B.beneath bench.old) }
+    ensures fallen { Given (Fallen (plan_gates own_inverter (open_plan aes128))) result (told B.registers B.lanes B.left B.shows bench.old) (told B.registers B.lanes B.left B.shows bench.new) }
+    ensures opened { Given (Opens aes128) result (told B.registers B.lanes B.left B.shows bench.old) (told B.registers B.lanes B.left B.shows bench.new) }
 {
     ask_and_play(bench, open_plan(), open_gates())
 }

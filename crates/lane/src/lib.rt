@@ -18,9 +18,9 @@ fn bit_of(byte: u8, at: u16) -> bool
 
 // Writes the bytes into the lane's registers from `base` on.
 pub fn place_bytes<B: Bench>(bench: &mut B, base: u16, lane: u16, bytes: &[u8]) -> Result<(), Fault>
-    ensures answer { result ≡ span_answer (told registers lanes left shows bench.old) base (8 * length bytes.now) lane }
-    ensures leaves { told registers lanes left shows bench.new ≡ after result (laid base (8 * length bytes.now) lane (bits_of bytes.now) (told registers lanes left shows bench.old)) (told registers lanes left shows bench.old) }
-    ensures beneath { beneath bench.new ≡ after result (laid_in base (8 * length bytes.now) lane (bits_of bytes.now) (beneath bench.old)) (beneath bench.old) }
+    ensures answer { result ≡ span_answer (told B.registers B.lanes B.left B.shows bench.old) base (8 * length bytes.now) lane }
+    ensures leaves { told B.registers B.lanes B.left B.shows bench.new ≡ after result (laid base (8 * length bytes.now) lane (bits_of bytes.now) (told B.registers B.lanes B.left B.shows bench.old)) (told B.registers B.lanes B.left B.shows bench.old) }
+    ensures beneath { B.beneath bench.new ≡ after result (laid_in base (8 * length bytes.now) lane (bits_of bytes.now) (B.beneath bench.old)) (B.beneath bench.old) }
 {
     let registers = bench.registers();
     if bytes.len() > 8_191 || base as usize + 8 * bytes.len() > registers as usize {
@@ -37,9 +37,9 @@ pub fn place_bytes<B: Bench>(bench: &mut B, base: u16, lane: u16, bytes: &[u8]) 
 
 // Zeroes the lane's first `count` registers.
 pub fn clear_lane<B: Bench>(bench: &mut B, lane: u16, count: u16) -> Result<(), Fault>
-    ensures answer { result ≡ span_answer (told registers lanes left shows bench.old) 0 count lane }
-    ensures leaves { told registers lanes left shows bench.new ≡ after result (zeroed count lane (told registers lanes left shows bench.old)) (told registers lanes left shows bench.old) }
-    ensures beneath { beneath bench.new ≡ after result (zeroed_in count lane (beneath bench.old)) (beneath bench.old) }
+    ensures answer { result ≡ span_answer (told B.registers B.lanes B.left B.shows bench.old) 0 count lane }
+    ensures leaves { told B.registers B.lanes B.left B.shows bench.new ≡ after result (zeroed count lane (told B.registers B.lanes B.left B.shows bench.old)) (told B.registers B.lanes B.left B.shows bench.old) }
+    ensures beneath { B.beneath bench.new ≡ after result (zeroed_in count lane (B.beneath bench.old)) (B.beneath bench.old) }
 {
     let registers = bench.registers();
     if count > registers {
@@ -56,8 +56,8 @@ pub fn clear_lane<B: Bench>(bench: &mut B, lane: u16, count: u16) -> Result<(), 
 
 // A bit of a register and a lane that the bench has.
 fn bit_at<B: Bench>(bench: &B, register: u16, lane: u16) -> bool
-    requires { (register < registers bench.now) × (lane < lanes bench.now) }
-    ensures { result ≡ (shows bench.now).bit register lane }
+    requires { (register < B.registers bench.now) × (lane < B.lanes bench.now) }
+    ensures { result ≡ (B.shows bench.now).bit register lane }
 {
     match bench.show(register, lane) {
         Ok(shown) => shown,
@@ -67,8 +67,8 @@ fn bit_at<B: Bench>(bench: &B, register: u16, lane: u16) -> bool
 
 // The byte that eight registers show.
 fn byte_at<B: Bench>(bench: &B, base: u16, lane: u16) -> u8
-    requires { (base + 8 ≤ registers bench.now) × (lane < lanes bench.now) }
-    ensures { result ≡ byte_of (λ x. (shows bench.now).bit x lane) base }
+    requires { (base + 8 ≤ B.registers bench.now) × (lane < B.lanes bench.now) }
+    ensures { result ≡ byte_of (λ x. (B.shows bench.now).bit x lane) base }
 {
     let mut byte = 0u8;
     for i in (0..8u16).rev() {
@@ -79,8 +79,8 @@ fn byte_at<B: Bench>(bench: &B, base: u16, lane: u16) -> u8
 
 // Reads the lane's registers from `base` on into the buffer.
 pub fn read_bytes<B: Bench>(bench: &B, base: u16, lane: u16, buffer: &mut [u8]) -> Result<(), Fault>
-    ensures answer { result ≡ span_answer (told registers lanes left shows bench.now) base (8 * length buffer.old) lane }
-    ensures bytes { buffer.new ≡ after result (shown_at (told registers lanes left shows bench.now) base lane (length buffer.old)) buffer.old }
+    ensures answer { result ≡ span_answer (told B.registers B.lanes B.left B.shows bench.now) base (8 * length buffer.old) lane }
+    ensures bytes { buffer.new ≡ after result (shown_at (told B.registers B.lanes B.left B.shows bench.now) base lane (length buffer.old)) buffer.old }
 {
     let registers = bench.registers();
     if buffer.len() > 8_191 || base as usize + 8 * buffer.len() > registers as usize {

@@ -48,9 +48,9 @@ fn misfit(sockets: u16, scratch: u16, registers: u16, bases: &[u16]) -> Option<u
 }
 
 pub fn play<B: Bench>(bench: &mut B, page: &[u8], bases: &[u16]) -> Result<(), Fault>
-    ensures answer { result ≡ play_answer (told registers lanes left shows bench.old) page.now bases.now }
-    ensures leaves { told registers lanes left shows bench.new ≡ after result (played page.now bases.now (told registers lanes left shows bench.old)) (told registers lanes left shows bench.old) }
-    ensures beneath { beneath bench.new ≡ after result (played_in page.now bases.now (beneath bench.old)) (beneath bench.old) }
+    ensures answer { result ≡ play_answer (told B.registers B.lanes B.left B.shows bench.old) page.now bases.now }
+    ensures leaves { told B.registers B.lanes B.left B.shows bench.new ≡ after result (played page.now bases.now (told B.registers B.lanes B.left B.shows bench.old)) (told B.registers B.lanes B.left B.shows bench.old) }
+    ensures beneath { B.beneath bench.new ≡ after result (played_in page.now bases.now (B.beneath bench.old)) (B.beneath bench.old) }
 {
     let page = Page::read(page)?;
     if let Some(at) = misfit(page.sockets, page.scratch, bench.registers(), bases) {

@@ -49,9 +49,9 @@ fn keep_page(kept: &mut Vec<u8>, bytes: Vec<u8>) -> Answer
 
 // Does the call on the bench, with the page that is kept.
 pub fn perform<B: Bench>(bench: &mut B, kept: &mut Vec<u8>, command: Command) -> Answer
-    ensures answer { result ≡ call_answer (told registers lanes left shows bench.old) kept.old.items (meant command) }
-    ensures leaves { told registers lanes left shows bench.new ≡ call_leaves (told registers lanes left shows bench.old) kept.old.items (meant command) }
-    ensures beneath { beneath bench.new ≡ call_beneath (told registers lanes left shows bench.old) kept.old.items (meant command) (beneath bench.old) }
+    ensures answer { result ≡ call_answer (told B.registers B.lanes B.left B.shows bench.old) kept.old.items (meant command) }
+    ensures leaves { told B.registers B.lanes B.left B.shows bench.new ≡ call_leaves (told B.registers B.lanes B.left B.shows bench.old) kept.old.items (meant command) }
+    ensures beneath { B.beneath bench.new ≡ call_beneath (told B.registers B.lanes B.left B.shows bench.old) kept.old.items (meant command) (B.beneath bench.old) }
     ensures keeps { kept.new.items ≡ call_keeps kept.old.items (meant command) }
 {
     match command {

@@ -27,7 +27,7 @@ fn respond<B: Bench>(
     line: &[u8],
     number: u64,
 ) -> Result<Answer, AllocError>
-    ensures { IfOk result (λ a. Answered (told registers lanes left shows bench.old) kept.old.items number line.now a (told registers lanes left shows bench.new) kept.new.items) }
+    ensures { IfOk result (λ a. Answered (told B.registers B.lanes B.left B.shows bench.old) kept.old.items number line.now a (told B.registers B.lanes B.left B.shows bench.new) kept.new.items) }
 {
     match read_command(heap, line)? {
         Some(command) => Ok(perform(bench, kept, command)),
@@ -44,7 +44,7 @@ fn answer_line<B: Bench>(
     number: u64,
     out: &mut Vec<u8>,
 ) -> Result<(), AllocError>
-    ensures { OnOk result (Stepped (told registers lanes left shows bench.old) kept.old.items number line.now out.old.items out.new.items (told registers lanes left shows bench.new) kept.new.items) }
+    ensures { OnOk result (Stepped (told B.registers B.lanes B.left B.shows bench.old) kept.old.items number line.now out.old.items out.new.items (told B.registers B.lanes B.left B.shows bench.new) kept.new.items) }
 {
     if is_silent(line) {
         return Ok(());
@@ -62,7 +62,7 @@ fn run<B: Bench>(
     out: &mut Vec<u8>,
 ) -> Result<(), AllocError>
     requires { passed + length text.now < 2 ^ 64 }
-    ensures { OnOk result (out.new.items ≡ out.old.items ++ answers (told registers lanes left shows bench.old) [] (passed + 1) (lines_in text.now)) }
+    ensures { OnOk result (out.new.items ≡ out.old.items ++ answers (told B.registers B.lanes B.left B.shows bench.old) [] (passed + 1) (lines_in text.now)) }
 {
     let mut page = Vec::new(heap);
     let mut rest = text;
@@ -92,7 +92,7 @@ fn run_beside<F: Bench + Drop>(
     out: &mut Vec<u8>,
 ) -> Result<(), AllocError>
     requires { passed + length text.now < 2 ^ 64 }
-    ensures { OnOk result (Wrote (beside (told registers lanes left shows first) second) (passed + 1) (lines_in text.now) out.old.items out.new.items) }
+    ensures { OnOk result (Wrote (beside (told F.registers F.lanes F.left F.shows first) second) (passed + 1) (lines_in text.now) out.old.items out.new.items) }
 {
     match second {
         None => run(heap, &mut first, text, passed, out),
