@@ -6,7 +6,7 @@ ghost use Rattle.plans.specs.Layout.{room};
 ghost use Rattle.plans.specs.Pages.{own_inverter};
 ghost use Rattle.plans.specs.Plays.{planned, planned_in, plan_gates, fit};
 ghost use Rattle.plans.specs.Plans.{schedule_plan, seal_plan, open_plan};
-ghost use Rattle.cipher.specs.Claims.{sized as sizedBy, plan_answer, Given, Fallen, Schedules, StagesStand, Seals, Opens};
+ghost use Rattle.cipher.specs.Claims.{sized as sized_by, plan_answer, Given, Fallen, Schedules, StagesStand, Seals, Opens};
 
 use bench::benches::Bench;
 use bench::faults::{Fault, Part, Question};
@@ -17,7 +17,7 @@ use plans::tables::{
 };
 
 fn sized(registers: u16, lanes: u16) -> bool
-    ensures { result ≡ sizedBy aes128 registers lanes }
+    ensures { result ≡ sized_by aes128 registers lanes }
 {
     registers >= least_registers() && lanes >= 1 && lanes <= 128
 }
