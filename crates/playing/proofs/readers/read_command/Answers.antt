@@ -24,7 +24,7 @@ returns-in-Some-2 c =
     let l = c.args.line.now in
     let v = c.in-Some.verb in
     let whole = command_is l (Some v) (c.in-Some.ensures ∙ ap verb_in c.split_word.ensures.word) ∙ numbers_follow v (words_in (after_word l)) c.in_default-verb.not-Page in
-    let numbers : Some (vec_items c.in-Some-2.numbers) ≡ shorts_in (words_in (after_word l)) = sym (ap (option_map vec_items) c.in-Some-2.is) ∙ c.in_ok-numbers.ensures ∙ ap (λ r. shorts_in (words_in r)) c.split_word.ensures.rest in
+    let numbers : Some (vec_items c.in-Some-2.numbers) ≡ shorts_in (words_in (after_word l)) = sym (ap (option_map vec_items) c.in-Some-2.is) ∙ c.in_ok-numbers-in_default-verb.ensures ∙ ap (λ r. shorts_in (words_in r)) c.split_word.ensures.rest in
     c.command_of.ensures ∙ ap (called_with v) numbers ∙ sym whole
 
 pub returns-in-None : goal.returns-in-None
@@ -32,5 +32,5 @@ returns-in-None c =
     let l = c.args.line.now in
     let v = c.in-Some.verb in
     let whole = command_is l (Some v) (c.in-Some.ensures ∙ ap verb_in c.split_word.ensures.word) ∙ numbers_follow v (words_in (after_word l)) c.in_default-verb.not-Page in
-    let numbers : None ≡ shorts_in (words_in (after_word l)) = sym (ap (option_map vec_items) c.in-None.is) ∙ c.in_ok-numbers.ensures ∙ ap (λ r. shorts_in (words_in r)) c.split_word.ensures.rest in
+    let numbers : None ≡ shorts_in (words_in (after_word l)) = sym (ap (option_map vec_items) c.in-None.is) ∙ c.in_ok-numbers-in_default-verb.ensures ∙ ap (λ r. shorts_in (words_in r)) c.split_word.ensures.rest in
     ap (called_with v) numbers ∙ sym whole

@@ -10,7 +10,7 @@ use Rattle.playing.specs.Setups.{bench_in, opens}
 use Rattle.playing.specs.Runs.{outcome, opened, from_line, script_text}
 use Rattle.playing.proofs.Scripts.{line_passed, line_opens}
 use Rattle.playing.proofs.runs.play_script.Goals as goal
-use Rattle.playing.proofs.runs.play_script.Goals.{in-Some+in_ok-run_setup, in-None+in_ok-push_answer}
+use Rattle.playing.proofs.runs.play_script.Goals.{in-Some+in_ok-run_setup-in-Some, in-None+in_ok-push_answer-in-None}
 
 pub returns-then-not-is_silent : goal.returns-then-not-is_silent
 returns-then-not-is_silent c =
@@ -24,8 +24,8 @@ returns-then-not-is_silent c =
     let opens_at : (room : Bool) → opened room n (bench_in line) (lines_in rest) ≡ script_text room c.args.script.now =
     λ room. line_opens room n text line rest some c.split_line.ensures.line c.split_line.ensures.rest loud ∙ inv.2 room in
     elim c.match-read_bench.branch [
-      | in-Some+in_ok-run_setup w ↦
-          let wrote = w.in_ok-run_setup.ensures in (
+      | in-Some+in_ok-run_setup-in-Some w ↦
+          let wrote = w.in_ok-run_setup-in-Some.ensures in (
             wrote.room,
             ap vec_items w.out-is
                 ∙ wrote.text
@@ -33,10 +33,10 @@ returns-then-not-is_silent c =
                 ∙ ap (λ o. opened wrote.room n o (lines_in rest)) w.in-Some.ensures
                 ∙ opens_at wrote.room,
           )
-      | in-None+in_ok-push_answer w ↦ (
+      | in-None+in_ok-push_answer-in-None w ↦ (
         true,
         ap vec_items w.out-is
-            ∙ w.in_ok-push_answer.ensures
+            ∙ w.in_ok-push_answer-in-None.ensures
             ∙ ap (λ l. l ++ answer_line (Unreadable n)) inv.1
             ∙ ap (λ o. opened true n o (lines_in rest)) w.in-None.ensures
             ∙ opens_at true,
