@@ -5,7 +5,7 @@ use Rattle.bench.specs.declared.faults.Fault.{Fault}
 use Rattle.lanetable.specs.declared.records.LaneRecord.{LaneRecord}
 use Rattle.unit.specs.Answers.{settled}
 use Rattle.unit.specs.View.{View, shape, made}
-use Rattle.law.specs.Calls.{Asked, place-key, place-block, clear, schedule, seal, unseal, read, counts, left, record_of, unready, Line, refusal, done, next, performed, log}
+use Rattle.law.specs.Calls.{Asked, place_key, place_block, clear, schedule, seal, unseal, read, counts, left, record_of, unready, Line, refusal, done, next, performed, log}
 use Rattle.consoling.specs.Runs.{unit_over}
 
 -- two units that differ at most in where the memory lies
@@ -22,8 +22,8 @@ settled_same (Some f) p q p' q' a b = b
 
 done_same : (v : View) (x : Memory) (a : Asked) → Same (done v a) (done (at v x) a)
 unfolding at
-done_same v x (place-key l bs) = record { model = refl; records = refl }
-done_same v x (place-block l bs) = record { model = refl; records = refl }
+done_same v x (place_key l bs) = record { model = refl; records = refl }
+done_same v x (place_block l bs) = record { model = refl; records = refl }
 done_same v x (clear l) = record { model = refl; records = refl }
 done_same v x schedule = record { model = refl; records = refl }
 done_same v x seal = record { model = refl; records = refl }

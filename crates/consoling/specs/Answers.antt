@@ -9,7 +9,7 @@ use Rattle.lanetable.specs.declared.records.KeyState.{KeyState}
 use Rattle.lanetable.specs.declared.records.KeyState.TheVariants.{Absent, Placed, Scheduled}
 use Rattle.lanetable.specs.declared.records.LaneRecord.{LaneRecord}
 use Rattle.unit.specs.declared.unit.Counts.{Counts as Three}
-use Rattle.law.specs.Calls.{Asked, place-key, place-block, clear, schedule, seal, unseal, read, counts, left, record_of, unready, Line}
+use Rattle.law.specs.Calls.{Asked, place_key, place_block, clear, schedule, seal, unseal, read, counts, left, record_of, unready, Line}
 use Rattle.law.specs.declared.calls.Answer.{Answer}
 use Rattle.law.specs.declared.calls.Answer.TheVariants.{Pending, Done, Refused, Counts, Left, Record, Unready}
 
@@ -38,8 +38,8 @@ reading_text bs = codes "ok " ++ (hex_text bs ++ (10 ∷ []))
 
 -- an accepted reading has what its buffer holds
 abbrev pub done_text : Asked → List ℕ
-done_text (place-key l bs) = answer_line plain.Done
-done_text (place-block l bs) = answer_line plain.Done
+done_text (place_key l bs) = answer_line plain.Done
+done_text (place_block l bs) = answer_line plain.Done
 done_text (clear l) = answer_line plain.Done
 done_text schedule = answer_line plain.Done
 done_text seal = answer_line plain.Done

@@ -7,7 +7,7 @@ use Rattle.std.specs.Prelude.{ℕ, Bool, cond, List, [], length, drop, replicate
 use Rattle.std.specs.Option.{option_map}
 use Rattle.std.specs.Str.{bytes_eq}
 use Rattle.text.specs.Text.{number_in, bytes_in, words_in}
-use Rattle.law.specs.Calls.{Asked, place-key, place-block, clear, schedule, seal, unseal, read, counts, left, record_of, unready}
+use Rattle.law.specs.Calls.{Asked, place_key, place_block, clear, schedule, seal, unseal, read, counts, left, record_of, unready}
 use Rattle.consoling.specs.declared.verbs.Verb.{Verb}
 use Rattle.consoling.specs.declared.verbs.Verb.TheVariants.{Key, Block, Clear, Schedule, Seal, Open, Read, Counts, Left, Record, Unready}
 
@@ -46,8 +46,8 @@ reading (Some l) None = None
 reading (Some l) (Some n) = Some (read l (replicate n 0))
 
 abbrev pub call_of : Verb → List ℕ → List ℕ → Option Asked
-call_of Key a b = bringing place-key (number_in a) (bytes_in b)
-call_of Block a b = bringing place-block (number_in a) (bytes_in b)
+call_of Key a b = bringing place_key (number_in a) (bytes_in b)
+call_of Block a b = bringing place_block (number_in a) (bytes_in b)
 call_of Clear a b = option_map clear (lane_in a b)
 call_of Schedule a b = alone_in schedule a
 call_of Seal a b = alone_in seal a

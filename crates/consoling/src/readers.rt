@@ -2,7 +2,7 @@
 ghost use Rattle.std.specs.Prelude.{◌≡◌, IfOk};
 ghost use Rattle.std.specs.Option.{option_map};
 ghost use Rattle.text.specs.Text.{number_in, bytes_in};
-ghost use Rattle.law.specs.Calls.{asked, place-key, place-block, clear, record_of};
+ghost use Rattle.law.specs.Calls.{asked, place_key, place_block, clear, record_of};
 ghost use Rattle.consoling.specs.Lines.{verb_in, alone_in, lane_in, bringing, reading, call_of, call_in};
 
 use crate::verbs::Verb;
@@ -77,7 +77,7 @@ fn record_call(lane: &[u8], second: &[u8]) -> Option<Call>
 }
 
 fn key_call(heap: Global, lane: &[u8], bytes: &[u8]) -> Result<Option<Call>, AllocError>
-    ensures { IfOk result (λ o. option_map asked o ≡ bringing place-key (number_in lane.now) (bytes_in bytes.now)) }
+    ensures { IfOk result (λ o. option_map asked o ≡ bringing place_key (number_in lane.now) (bytes_in bytes.now)) }
 {
     let Some(lane) = number(lane) else {
         return Ok(None);
@@ -89,7 +89,7 @@ fn key_call(heap: Global, lane: &[u8], bytes: &[u8]) -> Result<Option<Call>, All
 }
 
 fn block_call(heap: Global, lane: &[u8], bytes: &[u8]) -> Result<Option<Call>, AllocError>
-    ensures { IfOk result (λ o. option_map asked o ≡ bringing place-block (number_in lane.now) (bytes_in bytes.now)) }
+    ensures { IfOk result (λ o. option_map asked o ≡ bringing place_block (number_in lane.now) (bytes_in bytes.now)) }
 {
     let Some(lane) = number(lane) else {
         return Ok(None);

@@ -23,7 +23,7 @@ use Rattle.unit.proofs.Bytes.{shown_state, shown_key, same_state, same_key, same
 use Rattle.standard.proofs.Loops.{same_cipher, same_inv_cipher}
 use Rattle.unit.proofs.Planned.{planned_lanes, plan_expands, plan_enciphers, plan_deciphers}
 use Rattle.unit.proofs.Settled.{naming_tells, placing_tells, reading_tells, scheduling_tells, working_tells}
-use Rattle.law.specs.Calls.{Asked, place-key, place-block, clear, schedule, seal, unseal, read, counts, left, record_of, unready as unready-lane, accepted, told, answered, answer, refusal, performed, next, done, filled}
+use Rattle.law.specs.Calls.{Asked, place_key, place_block, clear, schedule, seal, unseal, read, counts, left, record_of, unready as unready-lane, accepted, told, answered, answer, refusal, performed, next, done, filled}
 pub use Rattle.law.specs.Sound.{Sound, AllSound}
 use Rattle.law.specs.Book.{Page, Book, blank, through, turned, wrote, entered}
 
@@ -144,8 +144,8 @@ laid_sixteen base lane l bs m e n small =
 -- ---- what the book enters of a performed call
 
 enter_done : (s : Shape) (bs : List ℕ) (a : Asked) (b : Book) (l : ℕ) → cond (accepted (told s a)) (wrote b (filled None bs a) l) (b l) ≡ wrote b a l
-enter_done s bs (place-key lane cs) b l = refl
-enter_done s bs (place-block lane cs) b l = refl
+enter_done s bs (place_key lane cs) b l = refl
+enter_done s bs (place_block lane cs) b l = refl
 enter_done s bs (clear lane) b l = refl
 enter_done s bs schedule b l = refl
 enter_done s bs seal b l = refl
@@ -165,7 +165,7 @@ entered_is v a b l = enter_one (refusal (shape v) a) (shape v) _ a b l
 
 pub done_holds : (v : View) (b : Book) (a : Asked) → Sound a → refusal (shape v) a ≡ None → Holds v b → Holds (done v a) (wrote b a)
 unfolding laid
-done_holds v b (place-key lane bs) sound e h =
+done_holds v b (place_key lane bs) sound e h =
     let t = placing_tells (key_bytes kind) (shape v) lane (length bs) e in
     let m' : Model = laid 128 (8 * length bs) lane (bits_of bs) v.model in
     let n : 8 * length bs ≡ 128 = omega (arith, t.2) in
@@ -181,7 +181,7 @@ done_holds v b (place-key lane bs) sound e h =
           ))
           (λ ne. lane_kept 128 (8 * length bs) lane (bits_of bs) _ v.model l (b l) ne (h.lane l lt));
     }
-done_holds v b (place-block lane bs) sound e h =
+done_holds v b (place_block lane bs) sound e h =
     let t = placing_tells 16 (shape v) lane (length bs) e in
     let m' : Model = laid 0 (8 * length bs) lane (bits_of bs) v.model in
     record {

@@ -17,7 +17,7 @@ use Rattle.unit.specs.Answers.{placing, reading, settled}
 use Rattle.unit.proofs.Settled.{reading_tells, scheduling_tells, working_tells}
 use Rattle.law.specs.declared.calls.Answer.{Answer}
 use Rattle.law.specs.declared.calls.Answer.TheVariants.{Refused, Done}
-use Rattle.law.specs.Calls.{Asked, place-key, place-block, clear, schedule, seal, unseal, read, counts, left, record_of, unready, Line, accepted, told, answered, answer, refusal, performed, next, done, filled, lane_of, log, ran}
+use Rattle.law.specs.Calls.{Asked, place_key, place_block, clear, schedule, seal, unseal, read, counts, left, record_of, unready, Line, accepted, told, answered, answer, refusal, performed, next, done, filled, lane_of, log, ran}
 use Rattle.law.specs.Book.{Page, Book, blank, turned, wrote, entered, kept}
 use Rattle.law.specs.Law.{Readings, Charged, count, is_schedule, is_seal, is_open, Alike, same, key_elsewhere, block_elsewhere, Agree, Each}
 use Rattle.unit.proofs.Planned.{planned_registers, planned_lanes, worked_falls}
@@ -41,8 +41,8 @@ read_right v b None l lane buf bytes a h e call said ok =
 read_right v b (Some f) l lane buf bytes a h e call said ok = absurd (false≢true (ap accepted said ∙ ok))
 
 one_right : (v : View) (b : Book) (x : Asked) (lane : ℕ) (bytes : List ℕ) (a : Answer) → Holds v b → (performed v x).call ≡ read lane bytes → (performed v x).answer ≡ a → accepted a ≡ true → (b lane).block ≡ Some bytes
-one_right v b (place-key l bs) lane bytes a h call said ok = let z : ◌≡◌ {A = ℕ} 0 1 = cc in absurdity z
-one_right v b (place-block l bs) lane bytes a h call said ok = let z : ◌≡◌ {A = ℕ} 0 1 = cc in absurdity z
+one_right v b (place_key l bs) lane bytes a h call said ok = let z : ◌≡◌ {A = ℕ} 0 1 = cc in absurdity z
+one_right v b (place_block l bs) lane bytes a h call said ok = let z : ◌≡◌ {A = ℕ} 0 1 = cc in absurdity z
 one_right v b (clear l) lane bytes a h call said ok = let z : ◌≡◌ {A = ℕ} 0 1 = cc in absurdity z
 one_right v b schedule lane bytes a h call said ok = let z : ◌≡◌ {A = ℕ} 0 1 = cc in absurdity z
 one_right v b seal lane bytes a h call said ok = let z : ◌≡◌ {A = ℕ} 0 1 = cc in absurdity z
@@ -77,8 +77,8 @@ paid x =
 
 pay_done : (v : View) (a : Asked) (bs : List ℕ) → refusal (shape v) a ≡ None → v.model.left ≡ (done v a).model.left + paid (record { call = filled None bs a; answer = told (shape v) a })
 unfolding laid
-pay_done v (place-key l cs) bs e = omega arith
-pay_done v (place-block l cs) bs e = omega arith
+pay_done v (place_key l cs) bs e = omega arith
+pay_done v (place_block l cs) bs e = omega arith
 pay_done v (clear l) bs e = omega arith
 pay_done v schedule bs e = let f = worked_falls (schedule_plan kind) v.model (scheduling_tells (shape v) e).1 in omega arith
 pay_done v seal bs e = let f = worked_falls (seal_plan kind) v.model (working_tells (shape v) S e).2 in omega arith
@@ -104,8 +104,8 @@ charged (x ∷ xs) v =
 
 -- what an accepted call makes of the shape
 abbrev shaped : Shape → Asked → Shape
-shaped s (place-key l bs) = record { registers = s.registers; lanes = s.lanes; left = s.left; records = set s.records l (with_key (get_or s.records l empty)) }
-shaped s (place-block l bs) = record { registers = s.registers; lanes = s.lanes; left = s.left; records = set s.records l (with_block (get_or s.records l empty)) }
+shaped s (place_key l bs) = record { registers = s.registers; lanes = s.lanes; left = s.left; records = set s.records l (with_key (get_or s.records l empty)) }
+shaped s (place_block l bs) = record { registers = s.registers; lanes = s.lanes; left = s.left; records = set s.records l (with_block (get_or s.records l empty)) }
 shaped s (clear l) = record { registers = s.registers; lanes = s.lanes; left = s.left; records = set s.records l empty }
 shaped s schedule = record { registers = s.registers; lanes = s.lanes; left = s.left - K; records = mathlib.Core.List.map promotes s.records }
 shaped s seal = record { registers = s.registers; lanes = s.lanes; left = s.left - S; records = s.records }
@@ -126,8 +126,8 @@ shape_worked plan rs v h =
 
 shape_done : (v : View) (a : Asked) → refusal (shape v) a ≡ None → shape (done v a) ≡ shaped (shape v) a
 unfolding laid
-shape_done v (place-key l bs) e = refl
-shape_done v (place-block l bs) e = refl
+shape_done v (place_key l bs) e = refl
+shape_done v (place_block l bs) e = refl
 shape_done v (clear l) e = refl
 shape_done v schedule e = shape_worked (schedule_plan kind) (mathlib.Core.List.map promotes v.records) v (scheduling_tells (shape v) e).1
 shape_done v seal e = shape_worked (seal_plan kind) v.records v (working_tells (shape v) S e).2
@@ -169,8 +169,8 @@ alike_next ch {x} {y} v w e h =
 
 -- the chosen lane's page
 wrote_at : (b c : Book) (a : Asked) (l : ℕ) → b l ≡ c l → wrote b a l ≡ wrote c a l
-wrote_at b c (place-key lane bs) l e = ap (λ (p : Page). cond (eqb l lane) (record { key = Some bs; block = p.block }) p) e
-wrote_at b c (place-block lane bs) l e = ap (λ (p : Page). cond (eqb l lane) (record { key = p.key; block = Some bs }) p) e
+wrote_at b c (place_key lane bs) l e = ap (λ (p : Page). cond (eqb l lane) (record { key = Some bs; block = p.block }) p) e
+wrote_at b c (place_block lane bs) l e = ap (λ (p : Page). cond (eqb l lane) (record { key = p.key; block = Some bs }) p) e
 wrote_at b c (clear lane) l e = ap (λ (p : Page). cond (eqb l lane) (record { key = None; block = None }) p) e
 wrote_at b c schedule l e = e
 wrote_at b c seal l e = ap (turned (encrypted kind)) e
@@ -209,8 +209,8 @@ same_buffer ch v w b c None l buf hv hw p ev ew (inl at) =
     cc
 
 alike_buffer : (ch : ℕ) (a : Asked) (v w : View) (b c : Book) → Holds v b → Holds w c → shape v ≡ shape w → b ch ≡ c ch → (lane : ℕ) (bs cs : List ℕ) → (performed v a).call ≡ read lane bs → (performed w a).call ≡ read lane cs → (lane ≡ ch) ⊎ (accepted (performed v a).answer ≡ false) → bs ≡ cs
-alike_buffer ch (place-key l ds) v w b c hv hw e p lane bs cs x y d = cc
-alike_buffer ch (place-block l ds) v w b c hv hw e p lane bs cs x y d = cc
+alike_buffer ch (place_key l ds) v w b c hv hw e p lane bs cs x y d = cc
+alike_buffer ch (place_block l ds) v w b c hv hw e p lane bs cs x y d = cc
 alike_buffer ch (clear l) v w b c hv hw e p lane bs cs x y d = cc
 alike_buffer ch schedule v w b c hv hw e p lane bs cs x y d = cc
 alike_buffer ch seal v w b c hv hw e p lane bs cs x y d = cc

@@ -22,7 +22,7 @@ use Rattle.law.specs.declared.calls.Answer.TheVariants.{Pending, Done, Refused, 
 use Rattle.law.specs.declared.calls.Entry.{Entry}
 
 pub data Asked : Type 0 where
-  place-key place-block : ℕ → List ℕ → Asked
+  place_key place_block : ℕ → List ℕ → Asked
   clear : ℕ → Asked
   schedule seal unseal : Asked
   read : ℕ → List ℕ → Asked
@@ -30,8 +30,8 @@ pub data Asked : Type 0 where
   record_of : ℕ → Asked
 
 abbrev pub asked : Call → Asked
-asked (call.PlaceKey l v) = place-key l (vec_items v)
-asked (call.PlaceBlock l v) = place-block l (vec_items v)
+asked (call.PlaceKey l v) = place_key l (vec_items v)
+asked (call.PlaceBlock l v) = place_block l (vec_items v)
 asked (call.Clear l) = clear l
 asked call.Schedule = schedule
 asked call.Seal = seal
@@ -66,8 +66,8 @@ accepted (Record r) = true
 accepted (Unready l) = true
 
 abbrev pub refusal : Shape → Asked → Option Fault
-refusal s (place-key l bs) = placing (key_bytes kind) s l (length bs)
-refusal s (place-block l bs) = placing 16 s l (length bs)
+refusal s (place_key l bs) = placing (key_bytes kind) s l (length bs)
+refusal s (place_block l bs) = placing 16 s l (length bs)
 refusal s (clear l) = naming s l
 refusal s schedule = scheduling s
 refusal s seal = working s S
@@ -83,8 +83,8 @@ abbrev pub three : Three
 three = record { schedule = K; seal = S; «open» = O }
 
 abbrev pub told : Shape → Asked → Answer
-told s (place-key l bs) = Done
-told s (place-block l bs) = Done
+told s (place_key l bs) = Done
+told s (place_block l bs) = Done
 told s (clear l) = Done
 told s schedule = Done
 told s seal = Done
@@ -113,8 +113,8 @@ record_answer (Err f) = Refused f
 
 -- what an accepted call makes of the unit
 abbrev pub done : View → Asked → View
-done v (place-key l bs) = key_placed v l bs
-done v (place-block l bs) = block_placed v l bs
+done v (place_key l bs) = key_placed v l bs
+done v (place_block l bs) = block_placed v l bs
 done v (clear l) = cleared v l
 done v schedule = scheduled v
 done v seal = sealed v
@@ -130,8 +130,8 @@ next v a = settled (refusal (shape v) a) (done v a) v
 
 -- a call whose buffer an accepted reading has filled with bs
 abbrev pub filled : Option Fault → List ℕ → Asked → Asked
-filled o bs (place-key l cs) = place-key l cs
-filled o bs (place-block l cs) = place-block l cs
+filled o bs (place_key l cs) = place_key l cs
+filled o bs (place_block l cs) = place_block l cs
 filled o bs (clear l) = clear l
 filled o bs schedule = schedule
 filled o bs seal = seal
@@ -143,8 +143,8 @@ filled o bs (record_of l) = record_of l
 filled o bs unready = unready
 
 abbrev pub lane_of : Asked → ℕ
-lane_of (place-key l bs) = l
-lane_of (place-block l bs) = l
+lane_of (place_key l bs) = l
+lane_of (place_block l bs) = l
 lane_of (clear l) = l
 lane_of schedule = 0
 lane_of seal = 0

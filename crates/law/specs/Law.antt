@@ -8,7 +8,7 @@
 use Rattle.std.specs.Prelude.{◌≡◌, ℕ, ◌+◌, ◌*◌, Bool, true, false, cond, ◌&&◌, ◌⊎◌, List, [], ◌∷◌, ◌++◌, length, Some, None, Option, ◌≢◌}
 use Rattle.law.specs.declared.calls.Answer.{Answer}
 use Rattle.unit.specs.Works.{K, S, O}
-use Rattle.law.specs.Calls.{Asked, place-key, place-block, clear, schedule, seal, unseal, read, counts, left, record_of, unready, Line, accepted}
+use Rattle.law.specs.Calls.{Asked, place_key, place_block, clear, schedule, seal, unseal, read, counts, left, record_of, unready, Line, accepted}
 use Rattle.bench.specs.Model.{Model}
 use Rattle.law.specs.Book.{book}
 
@@ -26,8 +26,8 @@ count p [] = 0
 count p (x ∷ xs) = cond (accepted x.answer && p x.call) 1 0 + count p xs
 
 abbrev pub is_schedule : Asked → Bool
-is_schedule (place-key l bs) = false
-is_schedule (place-block l bs) = false
+is_schedule (place_key l bs) = false
+is_schedule (place_block l bs) = false
 is_schedule (clear l) = false
 is_schedule schedule = true
 is_schedule seal = false
@@ -39,8 +39,8 @@ is_schedule (record_of l) = false
 is_schedule unready = false
 
 abbrev pub is_seal : Asked → Bool
-is_seal (place-key l bs) = false
-is_seal (place-block l bs) = false
+is_seal (place_key l bs) = false
+is_seal (place_block l bs) = false
 is_seal (clear l) = false
 is_seal schedule = false
 is_seal seal = true
@@ -52,8 +52,8 @@ is_seal (record_of l) = false
 is_seal unready = false
 
 abbrev pub is_open : Asked → Bool
-is_open (place-key l bs) = false
-is_open (place-block l bs) = false
+is_open (place_key l bs) = false
+is_open (place_block l bs) = false
 is_open (clear l) = false
 is_open schedule = false
 is_open seal = false
@@ -71,8 +71,8 @@ Charged making xs rest = making ≡ rest + (K * count is_schedule xs + (S * coun
 -- two calls that differ at most in the bytes, not their number, that a placing brings to another lane than the chosen one
 pub data Alike (chosen : ℕ) : Asked → Asked → Type 0 where
   same : (a : Asked) → Alike chosen a a
-  key_elsewhere : (lane : ℕ) (bs cs : List ℕ) → (lane ≢ chosen) → length bs ≡ length cs → Alike chosen (place-key lane bs) (place-key lane cs)
-  block_elsewhere : (lane : ℕ) (bs cs : List ℕ) → (lane ≢ chosen) → length bs ≡ length cs → Alike chosen (place-block lane bs) (place-block lane cs)
+  key_elsewhere : (lane : ℕ) (bs cs : List ℕ) → (lane ≢ chosen) → length bs ≡ length cs → Alike chosen (place_key lane bs) (place_key lane cs)
+  block_elsewhere : (lane : ℕ) (bs cs : List ℕ) → (lane ≢ chosen) → length bs ≡ length cs → Alike chosen (place_block lane bs) (place_block lane cs)
 
 -- two answers that differ at most in the bytes that a reading gave from another lane than the chosen one
 pub record Agree (chosen : ℕ) (x y : Line) : Type 0 where

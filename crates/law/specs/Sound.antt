@@ -1,10 +1,10 @@
 -- What a placing brings are bytes. Assumes nothing.
 use Rattle.std.specs.Prelude.{ℕ, ◌<◌, List, [], ◌∷◌, slice_index}
-use Rattle.law.specs.Calls.{Asked, place-key, place-block, clear, schedule, seal, unseal, read, counts, left, record_of, unready}
+use Rattle.law.specs.Calls.{Asked, place_key, place_block, clear, schedule, seal, unseal, read, counts, left, record_of, unready}
 
 abbrev pub Sound : Asked → Type 0
-Sound (place-key l bs) = (j : ℕ) → slice_index bs j < 256
-Sound (place-block l bs) = (j : ℕ) → slice_index bs j < 256
+Sound (place_key l bs) = (j : ℕ) → slice_index bs j < 256
+Sound (place_block l bs) = (j : ℕ) → slice_index bs j < 256
 Sound (clear l) = Unit {0}
 Sound schedule = Unit {0}
 Sound seal = Unit {0}

@@ -18,7 +18,7 @@ use Rattle.unit.specs.Lanes.{state_of}
 use Rattle.unit.specs.Answers.{ask, fits, enough, every_key, placing, reading, scheduling, working, settled}
 use Rattle.unit.proofs.Planned.{planned_registers, planned_lanes, worked_falls}
 use Rattle.unit.proofs.Settled.{Sized}
-use Rattle.law.specs.Calls.{Asked, place-key, place-block, schedule, seal, refusal, done, next}
+use Rattle.law.specs.Calls.{Asked, place_key, place_block, schedule, seal, refusal, done, next}
 use Rattle.law.specs.Book.{Page, Book, blank, wrote, turned as turned_page}
 use Rattle.law.proofs.Holds.{Holds, HoldsBlock, made_holds, done_holds}
 use Rattle.sealing.specs.Sealed.{key_in, block_in}
@@ -127,7 +127,7 @@ full_at (suc n) ys (suc l) h = full_at n ys l (omega arith)
 
 abbrev book_to : List ℕ → ℕ → Book
 book_to input zero = blank
-book_to input (suc n) = wrote (wrote (book_to input n) (place-key n (key_in input))) (place-block n (block_in input n))
+book_to input (suc n) = wrote (wrote (book_to input n) (place_key n (key_in input))) (place_block n (block_in input n))
 
 abbrev page : List ℕ → ℕ → Page
 page input l = record { key = Some (key_in input); block = Some (block_in input l) }
@@ -161,11 +161,11 @@ fill_none m x input = record {
 }
 
 fill_more : (v₀ v : View) (input : List ℕ) (n : ℕ) → Sized (shape v₀) → n < v₀.model.lanes → 16 * (n + 1) + 16 ≤ length input → Bytes input → Filled v₀ v input n
-    → Filled v₀ (next (next v (place-key n (key_in input))) (place-block n (block_in input n))) input (suc n)
+    → Filled v₀ (next (next v (place_key n (key_in input))) (place_block n (block_in input n))) input (suc n)
 unfolding laid
 fill_more v₀ v input n z lt long small h =
-    let a : Asked = place-key n (key_in input) in
-    let b : Asked = place-block n (block_in input n) in
+    let a : Asked = place_key n (key_in input) in
+    let b : Asked = place_block n (block_in input n) in
     let r = h.registers in
     let l = h.lanes in
     let size : Sized (shape v) = record { room = omega (arith, z.room); some = omega (arith, z.some); few = omega (arith, z.few) } in

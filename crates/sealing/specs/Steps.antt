@@ -4,12 +4,12 @@
 --   turned v            scheduled, and then sealed
 use Rattle.std.specs.Prelude.{ℕ, zero, suc, List}
 use Rattle.unit.specs.View.{View}
-use Rattle.law.specs.Calls.{place-key, place-block, schedule, seal, next}
+use Rattle.law.specs.Calls.{place_key, place_block, schedule, seal, next}
 use Rattle.sealing.specs.Sealed.{key_in, block_in}
 
 abbrev pub filled : View → List ℕ → ℕ → View
 filled v input zero = v
-filled v input (suc n) = next (next (filled v input n) (place-key n (key_in input))) (place-block n (block_in input n))
+filled v input (suc n) = next (next (filled v input n) (place_key n (key_in input))) (place_block n (block_in input n))
 
 abbrev pub turned : View → View
 turned v = next (next v schedule) seal

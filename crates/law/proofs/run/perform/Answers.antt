@@ -3,7 +3,7 @@ use Rattle.std.proofs.lemmas.List.{with_items_is}
 use Rattle.unit.specs.declared.unit.Counts.{Counts as Three}
 use Rattle.unit.proofs.Settled.{settled_same}
 use Rattle.law.specs.declared.calls.Answer.TheVariants.{Counts, Left, Unready}
-use Rattle.law.specs.Calls.{asked, place-key, place-block, clear, schedule, seal, unseal, read, counts, left, record_of, unready, done_answer, record_answer}
+use Rattle.law.specs.Calls.{asked, place_key, place_block, clear, schedule, seal, unseal, read, counts, left, record_of, unready, done_answer, record_answer}
 use Rattle.law.proofs.Did.{did, done_told, record_told}
 use Rattle.law.proofs.run.perform.Goals as goal
 use Rattle.law.proofs.run.perform.Goals.{in-PlaceKey, in-PlaceBlock, in-Clear, in-Schedule, in-Seal, in-Open, in-Read, in-Counts, in-Left, in-Record, in-Unready}

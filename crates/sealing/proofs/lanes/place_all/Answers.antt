@@ -1,6 +1,6 @@
 use Rattle.std.proofs.Common.{◌≡◌, ◌+◌, ◌-◌, ◌*◌, take, drop, sym, ap, ◌∙◌, ap₂, add-one, arith}
 use Rattle.unit.specs.Held.{view}
-use Rattle.law.specs.Calls.{place-key, place-block, next}
+use Rattle.law.specs.Calls.{place_key, place_block, next}
 use Rattle.sealing.specs.Sealed.{key_in}
 use Rattle.sealing.specs.Steps.{filled}
 use Rattle.sealing.proofs.lanes.place_all.Goals as goal
