@@ -34,8 +34,8 @@ pub(crate) fn seal_all<B: Bench>(unit: &mut CipherUnit<B>, input: &[u8], count: 
 
 // Writes a line for the block of each lane below `count`.
 pub(crate) fn write_all<B: Bench>(unit: &CipherUnit<B>, count: usize, out: &mut [u8])
-    requires count_in_bounds { (33 * count ≤ length out.old) × (count ≤ 64) }
-    requires by_index { (l : ℕ) → l < count → reading (shape_of B.Bench unit.now) l 16 ≡ None }
+    requires fits { (33 * count ≤ length out.old) × (count ≤ 64) }
+    requires readable { (l : ℕ) → l < count → reading (shape_of B.Bench unit.now) l 16 ≡ None }
     ensures { out.new ≡ lines_to (state_of (view B.Bench unit.now).model) count ++ drop (33 * count) out.old }
 {
     for i in 0..count {

@@ -10,8 +10,8 @@ use Rattle.consoling.specs.Runs.{unit_on, answers_text, LawBeside}
 use Rattle.consoling.proofs.Texts.{beside_line, nothing_beside, unreadable_beside, made_all}
 use Rattle.consoling.proofs.runs.answer_beside.Goals as goal
 
-pub returns-in_ok-answer_alone : goal.returns-in_ok-answer_alone
-returns-in_ok-answer_alone c =
+pub returns-in_ok-answer_alone-in-Nothing : goal.returns-in_ok-answer_alone-in-Nothing
+returns-in_ok-answer_alone-in-Nothing c =
     let r = c.push_text.result in
     let start = vec_items c.args.out.now in
     let had = vec_items c.answer_alone.new.out in
@@ -22,16 +22,16 @@ returns-in_ok-answer_alone c =
     let n = c.args.passed + 1 in
     record {
       text = subst (λ (b : List ℕ). IfOk r (λ _. all ≡ start ++ (t ++ b))) (nothing_beside n ls none)
-          (last_pushed r start had all t beside_line c.in_ok-answer_alone.ensures.text c.push_text.ensures);
-      law = made_all r _ (subst (λ (f : Found). LawBeside c.args.setup (asks (vec_items c.args.script.log)) f (past_bench ls)) (sym none) c.in_ok-answer_alone.ensures.law);
+          (last_pushed r start had all t beside_line c.in_ok-answer_alone-in-Nothing.ensures.text c.push_text.ensures);
+      law = made_all r _ (subst (λ (f : Found). LawBeside c.args.setup (asks (vec_items c.args.script.log)) f (past_bench ls)) (sym none) c.in_ok-answer_alone-in-Nothing.ensures.law);
     }
 
-pub returns-in_ok-push_text : goal.returns-in_ok-push_text
-returns-in_ok-push_text c =
+pub returns-in_ok-push_text-in-Unreadable : goal.returns-in_ok-push_text-in-Unreadable
+returns-in_ok-push_text-in-Unreadable c =
     let r = c.push_answer.result in
     let start = vec_items c.args.out.now in
     let a1 = vec_items c.answer_alone-in-Unreadable.new.out in
-    let a2 = vec_items c.push-text_in-Unreadable.new.out in
+    let a2 = vec_items c.push_text-in-Unreadable.new.out in
     let all = vec_items c.push_answer.new.out in
     let k = c.in-Unreadable.number in
     let u = answer_line (Unreadable k) in
@@ -41,6 +41,6 @@ returns-in_ok-push_text c =
     let n = c.args.passed + 1 in
     record {
       text = subst (λ (b : List ℕ). IfOk r (λ _. all ≡ start ++ (t ++ b))) (unreadable_beside n ls k bad)
-          (last_pushed r start a1 all t (beside_line ++ u) c.in_ok-answer_alone-2.ensures.text (last_pushed r a1 a2 all beside_line u c.in_ok-push_text.ensures c.push_answer.ensures));
-      law = made_all r _ (subst (λ (f : Found). LawBeside c.args.setup (asks (vec_items c.args.script.log)) f (past_bench ls)) (sym bad) c.in_ok-answer_alone-2.ensures.law);
+          (last_pushed r start a1 all t (beside_line ++ u) c.in_ok-answer_alone-in-Unreadable.ensures.text (last_pushed r a1 a2 all beside_line u c.in_ok-push_text-in-Unreadable.ensures c.push_answer.ensures));
+      law = made_all r _ (subst (λ (f : Found). LawBeside c.args.setup (asks (vec_items c.args.script.log)) f (past_bench ls)) (sym bad) c.in_ok-answer_alone-in-Unreadable.ensures.law);
     }

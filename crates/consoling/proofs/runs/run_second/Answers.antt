@@ -10,8 +10,8 @@ use Rattle.law.specs.Calls.{asks, lines}
 use Rattle.consoling.specs.Runs.{RanBoth}
 use Rattle.consoling.proofs.runs.run_second.Goals as goal
 
-pub returns-in_ok-words : goal.returns-in_ok-words
-returns-in_ok-words g c =
+pub returns-in_ok-words-in-Some-Word : goal.returns-in_ok-words-in-Some-Word
+returns-in_ok-words-in-Some-Word g c =
     let left = meaning g.F.Bench c.args.left in
     let n = c.in-Some-Word.registers in
     let a = c.in-Some-Word.allotment in
@@ -21,8 +21,8 @@ returns-in_ok-words g c =
     subst (λ (m : Model). RanBoth (meaning g.P.Bench c.args.one) m (asks c.args.first.now) (asks c.args.second.now) (lines c.run_scripts-in-Some-Word.new.first) (lines c.run_scripts-in-Some-Word.new.second))
     (ap (side_model left) model ∙ sym (ap (beside left) right)) c.run_scripts-in-Some-Word.ensures
 
-pub returns-in_ok-rows : goal.returns-in_ok-rows
-returns-in_ok-rows g c =
+pub returns-in_ok-rows-in-Some-Row : goal.returns-in_ok-rows-in-Some-Row
+returns-in_ok-rows-in-Some-Row g c =
     let left = meaning g.F.Bench c.args.left in
     let w = c.in-Some-Row.width in
     let n = c.in-Some-Row.bytes in

@@ -14,6 +14,6 @@ loop-i-preserved g c =
     let line = c.write_line.new.out in
     let lt : i < c.args.count = omega arith in
     let size = 33 * i + 33 - 33 * i in
-    let state : c.read.new.buffer ≡ f i = c.read.ensures.bytes ∙ ap (λ o. settled o (f i) (replicate 16 0)) (c.requires.1 i lt) in
+    let state : c.read.new.buffer ≡ f i = c.read.ensures.bytes ∙ ap (λ o. settled o (f i) (replicate 16 0)) (c.requires.readable i lt) in
     ap (λ o. put_mid (33 * i) size o line) c.loop-i.invariant
     ∙ lines_more f c.args.out.now line i size (length_lines f i (λ k h. refl)) (omega arith) (c.write_line.ensures ∙ ap hex_line state)

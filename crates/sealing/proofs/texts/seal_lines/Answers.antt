@@ -17,10 +17,11 @@ write_all-requires c =
     let m : Model = meaning ghosts c.new.result in
     let registers : m.registers ≡ 2048 = ap (λ (x : Model). x.registers) c.new.ensures.meaning in
     let left : m.left ≡ 1000000000 = ap (λ (x : Model). x.left) c.new.ensures.meaning in
-    let is = c.seal_all.ensures ∙ ap (λ v. turned (filled v input n)) c.new-unit.ensures.empty in (
-      (omega arith, omega arith),
-      λ l lt. (lane_gives m _ _ input n (omega (arith, registers)) refl (omega (arith, left)) (omega arith) (omega arith) (omega arith) (λ j. omega (arith, c.type_inv.input j)) is l lt).accepted,
-    )
+    let is = c.seal_all.ensures ∙ ap (λ v. turned (filled v input n)) c.new-unit.ensures.empty in
+    record {
+      fits = (omega arith, omega arith);
+      readable = λ l lt. (lane_gives m _ _ input n (omega (arith, registers)) refl (omega (arith, left)) (omega arith) (omega arith) (omega arith) (λ j. omega (arith, c.type_inv.input j)) is l lt).accepted;
+    }
 
 pub returns : goal.returns
 returns c =
