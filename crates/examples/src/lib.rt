@@ -8,12 +8,12 @@ mod lines {
 
     #[test]
     fn lines_and_words(rt: HostRuntime) {
-        let (line, rest) = split_line(b"set  1\nend");
-        assert_eq!(rt; line, b"set  1");
-        assert_eq!(rt; rest, b"end");
-        let (word, rest) = split_word(b"  set  1");
-        assert_eq!(rt; word, b"set");
-        assert_eq!(rt; rest, b"  1");
+        let (line, rest) = split_line(b"set  1\nend".as_slice());
+        assert_eq!(rt; line, b"set  1".as_slice());
+        assert_eq!(rt; rest, b"end".as_slice());
+        let (word, rest) = split_word(b"  set  1".as_slice());
+        assert_eq!(rt; word, b"set".as_slice());
+        assert_eq!(rt; rest, b"  1".as_slice());
     }
 
     #[test]
@@ -34,7 +34,7 @@ mod lines {
         push_text(&mut out, b" ")?;
         push_hex(&mut out, bytes.as_slice())?;
         push_hex(&mut out, b"")?;
-        assert_eq!(rt; out.as_slice(), b"n 2090 00ff-");
+        assert_eq!(rt; out.as_slice(), b"n 2090 00ff-".as_slice());
         assert!(rt; hex_bytes(heap, b"0F")?.is_none());
         Ok(())
     }
@@ -52,7 +52,7 @@ mod scripts {
         let written = play_script(rt.alloc(), script)?;
         assert_eq!(rt;
             written.as_slice(),
-            b"page 1 1 0\nok\nbit 1\nbit 1\nbit 1\nleft 0\n"
+            b"page 1 1 0\nok\nbit 1\nbit 1\nbit 1\nleft 0\n".as_slice()
         );
         Ok(())
     }
@@ -60,10 +60,10 @@ mod scripts {
     #[test]
     fn bench_lines(rt: HostRuntime) -> Result<(), Fail> {
         let heap = rt.alloc();
-        assert_eq!(rt; play_script(heap, b"# no bench\n\n")?.as_slice(), b"");
+        assert_eq!(rt; play_script(heap, b"# no bench\n\n")?.as_slice(), b"".as_slice());
         assert_eq!(rt;
             play_script(heap, b"\nbench word 8\nleft\n")?.as_slice(),
-            b"unreadable 2\n"
+            b"unreadable 2\n".as_slice()
         );
         assert_eq!(rt;
             play_script(
@@ -71,11 +71,11 @@ mod scripts {
                 b"bench row 1 9 7 + bench word 8 9999999999\nlanes\nleft",
             )?
             .as_slice(),
-            b"lanes 73\nleft 7\n"
+            b"lanes 73\nleft 7\n".as_slice()
         );
         assert_eq!(rt;
             play_script(heap, b"bench word 2305843009213693952 1\nleft")?.as_slice(),
-            b"no memory\n"
+            b"no memory\n".as_slice()
         );
         Ok(())
     }
@@ -101,7 +101,7 @@ mod sealed {
         let mut out = [7u8; TEXT];
         let length = seal_text(&[0u8; 17], &mut out).ok().ok_or("refused")?;
         assert_eq!(rt; length, 10);
-        assert_eq!(rt; &out[0..12], b"refused 6\n\x07\x07");
+        assert_eq!(rt; &out[0..12], b"refused 6\n\x07\x07".as_slice());
         Ok(())
     }
 }
@@ -124,7 +124,7 @@ mod console {
         let written = console_script(rt.alloc(), script)?;
         assert_eq!(rt;
             written.as_slice(),
-            b"refused 1 unit 0\nrefused 1 unit 0\nleft 9\nbeside\nrefused 8 unit 0\nrefused 5 unit 1\n"
+            b"refused 1 unit 0\nrefused 1 unit 0\nleft 9\nbeside\nrefused 8 unit 0\nrefused 5 unit 1\n".as_slice()
         );
         Ok(())
     }
@@ -148,21 +148,21 @@ mod console {
         let _unit = run(SideBySide { first, second }, &mut log);
         let mut out = Vec::new(heap);
         push_answer(&mut out, &log[0])?;
-        assert_eq!(rt; out.as_slice(), b"refused 1 unit 0\n");
+        assert_eq!(rt; out.as_slice(), b"refused 1 unit 0\n".as_slice());
         Ok(())
     }
 
     #[test]
     fn bench_lines(rt: HostRuntime) -> Result<(), Fail> {
         let heap = rt.alloc();
-        assert_eq!(rt; console_script(heap, b"# no bench\n\n")?.as_slice(), b"");
+        assert_eq!(rt; console_script(heap, b"# no bench\n\n")?.as_slice(), b"".as_slice());
         assert_eq!(rt;
             console_script(heap, b"\nbench word 8\nleft\n")?.as_slice(),
-            b"unreadable 2\n"
+            b"unreadable 2\n".as_slice()
         );
         assert_eq!(rt;
             console_script(heap, b"bench word 8 7\nbeside\n\nleft\n")?.as_slice(),
-            b"beside\nunreadable 4\n"
+            b"beside\nunreadable 4\n".as_slice()
         );
         assert!(rt;
             console_script(heap, b"bench word 8 7\nread 0 18446744073709551615\n").is_err()
