@@ -1,4 +1,6 @@
 // Writes the archive on standard output.
+#![tactic(auto)]
+
 use archiving::archives::archive_text;
 use std::io;
 use std::io::Write;

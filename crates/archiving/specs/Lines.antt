@@ -5,7 +5,7 @@
 --   low_text w n        the lowest n bytes of w in hexadecimal digits, the highest of them first
 --   mask_line, column_line   a gate with its check
 --   play_line i p       play p with the index i, its page's name and its bases
-use Rattle.std.specs.Prelude.{ℕ, zero, suc, ◌-◌, ◌*◌, ◌/◌, ◌%◌, ◌^◌, cond, List, [], ◌∷◌, ◌++◌, length, replicate, codes, ◌==◌, bit_xor, nat_lt}
+use Rattle.std.specs.Prelude.{ℕ, zero, suc, ◌*◌, ◌/◌, ◌%◌, ◌^◌, cond, List, [], ◌∷◌, ◌++◌, codes, ◌==◌, bit_xor, nat_lt}
 use Rattle.std.specs.List.{flat_map}
 use Rattle.bench.specs.declared.gates.Gate.{Gate}
 use Rattle.bench.specs.declared.kinds.Kind.{Kind}

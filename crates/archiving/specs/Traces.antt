@@ -4,7 +4,7 @@
 --   stepped g ws     the words after gate g
 --   unit_words q n    the first n words of which case i has input i alone at 1, of 8·q inputs, at most 64
 --   input_words k n   the first n words of which case l has the byte 64·k + l in socket 0
-use Rattle.std.specs.Prelude.{ℕ, zero, suc, ◌-◌, ◌*◌, ◌/◌, ◌%◌, ◌^◌, cond, ◌&&◌, List, map, ◌==◌, nat_lt, slice_index, slice_set}
+use Rattle.std.specs.Prelude.{ℕ, zero, suc, ◌-◌, ◌/◌, ◌%◌, ◌^◌, cond, ◌&&◌, List, map, ◌==◌, nat_lt, slice_index, slice_set}
 use Rattle.std.specs.List.{range_with_len}
 use Rattle.bench.specs.Word.{combined}
 use Rattle.bench.specs.declared.gates.Gate.{Gate}

@@ -1,4 +1,6 @@
 // The archive: a text from which blocks can be recovered by hand, with every page, plan and number in it.
+#![tactic(auto)]
+
 pub mod archives;
 mod examples;
 mod gates;

@@ -1,5 +1,5 @@
 -- Calls that no question refuses. Assumes nothing.
-use Rattle.std.proofs.Common.{◌≡◌, ℕ, ◌<◌, ltb, Ok}
+use Rattle.std.proofs.Common.{◌≡◌, ℕ, ◌<◌, Ok}
 use Rattle.std.proofs.lemmas.Bool.{lt-ltb}
 use Rattle.bench.specs.Model.{Model, gate_answer, set_answer}
 

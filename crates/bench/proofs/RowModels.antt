@@ -1,13 +1,13 @@
 -- What writes of bytes are to a row bench's meaning. Assumes nothing.
-use Rattle.std.proofs.Common.{◌≡◌, ℕ, zero, suc, ◌+◌, ◌-◌, ◌*◌, ◌/◌, ◌%◌, ◌^◌, ◌<◌, ◌≤◌, min, Bool, true, false, cond, not, ◌&&◌, ◌||◌, eqb, ltb, ◌≢◌, ◌⊎◌, List, length, get_or, drop, set, sym, refl, ap, ◌∙◌, subst, ap₂, inl, inr, mul-le-mul_right, suc-mul, div-mul-le_self, arith, length-set}
+use Rattle.std.proofs.Common.{◌≡◌, ℕ, zero, suc, ◌+◌, ◌-◌, ◌*◌, ◌/◌, ◌%◌, ◌^◌, ◌<◌, ◌≤◌, min, Bool, true, false, cond, not, ◌&&◌, ◌||◌, eqb, ltb, List, length, get_or, drop, set, sym, refl, ap, ◌∙◌, ap₂, inl, inr, mul-le-mul_right, suc-mul, div-mul-le_self, arith, length-set}
 use lib.Arith.{digits_lt, digits_div}
 use Rattle.std.proofs.lemmas.Nat.{pow_below}
 use Rattle.std.proofs.lemmas.List.{get_or-set_same, get_or-set_other, drop-set-lt}
 use Rattle.std.proofs.lemmas.Bool.{cases_Bool, cases_eq, ltb-true, ltb-false, lt-ltb, le-ltb, eqb-true, eqb-false, eq-eqb, ne_eqb}
-use Rattle.bench.specs.Model.{Model, written, gated}
+use Rattle.bench.specs.Model.{written, gated}
 use Rattle.bench.specs.Kinds.{gate_result}
 use Rattle.bench.specs.Word.{test_bit}
-use Rattle.bench.specs.Row.{fit, row_lanes, spot, row_cell, row_bit, row_model, rest, put_byte, row_put, row_step, rows_done}
+use Rattle.bench.specs.Row.{fit, row_lanes, spot, row_cell, row_model, rest, put_byte, row_put, rows_done}
 use Rattle.bench.specs.declared.kinds.Kind.{Kind}
 use Rattle.bench.proofs.WordBits.{turned_digit, digit_not, or_power, and_power, test_or, test_and, test_power}
 use Rattle.bench.proofs.WordModels.{same_model}

@@ -1,9 +1,9 @@
 -- What a change of one or both of two benches is to the two side by side. Assumes nothing.
-use Rattle.std.proofs.Common.{◌≡◌, ℕ, ◌+◌, ◌-◌, ◌<◌, ◌≤◌, min, Bool, true, false, cond, ◌&&◌, eqb, ltb, ◌⊎◌, List, sym, refl, ap, ◌∙◌, inl, inr, arith}
+use Rattle.std.proofs.Common.{◌≡◌, ℕ, ◌-◌, ◌<◌, ◌≤◌, min, Bool, true, false, eqb, ltb, List, refl, inl, inr, arith}
 use Rattle.std.proofs.lemmas.Bool.{cases_Bool, cond-true, cond-false, ltb-true, ltb-false, lt-ltb, le-ltb, eqb-true, eqb-false, eq-eqb, ne_eqb}
 use Rattle.bench.specs.declared.kinds.Kind.{Kind}
 use Rattle.bench.specs.Model.{Model, Memory, part, both, lanes_in, written_in, written, gated}
-use Rattle.bench.specs.Side.{side_model, side_lanes, side_bit}
+use Rattle.bench.specs.Side.{side_model, side_lanes}
 use Rattle.bench.proofs.WordModels.{same_model}
 
 -- a lane of the one, and of the other

@@ -1,8 +1,8 @@
 -- Single bits of words: what the operations on words do to each. Assumes nothing.
-use Rattle.std.proofs.Common.{◌≡◌, ℕ, zero, suc, ◌+◌, ◌-◌, ◌*◌, ◌/◌, ◌%◌, ◌^◌, ◌<◌, ◌≤◌, Bool, true, false, cond, not, ◌&&◌, ◌||◌, eqb, sym, refl, ap, ◌∙◌, subst, ap₂, mod-lt, zero-lt-suc, pow-suc, one-add, arith}
+use Rattle.std.proofs.Common.{◌≡◌, ℕ, zero, suc, ◌-◌, ◌/◌, ◌%◌, ◌^◌, ◌<◌, Bool, true, false, cond, not, ◌&&◌, ◌||◌, eqb, sym, refl, ap, ◌∙◌, pow-suc, one-add, arith}
 use lib.Dec.{eqb-zero-suc, eqb-suc-zero, eqb-suc-suc}
 use lib.Bits.{bit_and, bit_or, bit_xor, xor_shr, and_shr, or_shr, xor_mod, and_mod, or_mod, xor_lt, and_lt, or_lt}
-use Rattle.std.proofs.lemmas.Nat.{shr-shr, mod_below, pow_below}
+use Rattle.std.proofs.lemmas.Nat.{shr-shr, pow_below}
 use Rattle.bench.specs.Kinds.{apart, gate_result}
 use Rattle.bench.specs.Word.{test_bit, turned, combined, put_bit}
 use Rattle.bench.specs.declared.kinds.Kind.{Kind}

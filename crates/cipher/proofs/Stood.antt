@@ -1,6 +1,6 @@
 -- The claims, from what the plans do to a lane. Assumes nothing.
-use Rattle.std.proofs.Common.{◌≡◌, ℕ, ◌+◌, ◌-◌, ◌*◌, ◌<◌, ◌≤◌, List, Ok, Err, Result, sym, refl, ap, ◌∙◌, subst, ap₂, arith}
-use Rattle.standard.specs.Kinds.{KeyKind, rounds}
+use Rattle.std.proofs.Common.{◌≡◌, ℕ, ◌<◌, List, Ok, Err, Result, ap, ◌∙◌}
+use Rattle.standard.specs.Kinds.{KeyKind}
 use Rattle.bench.specs.declared.faults.Fault.{Fault}
 use Rattle.bench.specs.Model.{Model, after}
 use Rattle.plans.specs.declared.plays.Play.{Play}

@@ -1,2 +1,4 @@
 // Scheduling, sealing and opening in every lane, on any bench.
+#![tactic(auto)]
+
 pub mod calls;

@@ -1,7 +1,7 @@
 -- The pages of the first and the last stage: each has one socket in, so one run over 256 lanes. Assumes nothing.
 use Rattle.plans.specs.declared.plays.Play.TheVariants.{Enter, Finish}
-use Rattle.std.proofs.Common.{◌≡◌, ℕ, zero, suc, ◌*◌, ◌<◌, T, List, [], ◌∷◌, get_or, take, refl, arith}
-use mathlib.Core.Option.{Option, some, none}
+use Rattle.std.proofs.Common.{◌≡◌, ℕ, zero, suc, ◌<◌, T, List, [], ◌∷◌, get_or, take, refl, arith}
+use mathlib.Core.Option.{none}
 use Rattle.coordinates.specs.Coordinates.{to_coordinates, from_coordinates}
 use Rattle.standard.specs.Field.{affine}
 use Rattle.player.specs.Pages.{gates_of, sockets_in}

@@ -1,20 +1,15 @@
 -- A round in coordinates is the round of FIPS 197. Assumes nothing.
-use Rattle.std.proofs.Common.{◌≡◌, ℕ, zero, suc, ◌+◌, ◌*◌, ◌%◌, ◌<◌, ◌≤◌, Bool, true, false, cond, T, List, [], ◌∷◌, ◌++◌, map, length, get_or, sym, refl, ap, ◌∙◌, subst, ap₂, arith}
+use Rattle.std.proofs.Common.{◌≡◌, ℕ, ◌*◌, ◌%◌, ◌<◌, List, [], ◌∷◌, map, sym, refl, ap, ◌∙◌, ap₂}
 use mathlib.Core.Path.{fun_ext}
-use lib.Bits.{bit_xor, xor_assoc, xor_comm, xor_self, xor_zero_r}
-use lib.Lanes.{zip2}
+use lib.Bits.{bit_xor, xor_zero_r}
 use Rattle.std.specs.List.{range_with_len}
-use Rattle.standard.specs.Bits.{bit}
-use Rattle.bench.specs.Kinds.{apart as xor_b}
-use Rattle.coordinates.specs.Coordinates.{combine, to_coordinates, from_coordinates, basis, bits_in_basis}
+use Rattle.coordinates.specs.Coordinates.{to_coordinates}
 use Rattle.standard.specs.Field.{inverse, affine, mul, SBox}
-use Rattle.standard.specs.Cipher.{MixColumns, ShiftRows, AddRoundKey, Round, SubBytes}
+use Rattle.standard.specs.Cipher.{MixColumns, ShiftRows, AddRoundKey, Round}
 use Rattle.standard.proofs.FieldLaws.{inverse_byte}
 use Rattle.coordinates.proofs.CoordinateLaws.{to_xor, from_to}
-use Rattle.standard.proofs.Tests.{tests, equal_below, small_below}
-use Rattle.circuit.proofs.Unary.{same}
 use Rattle.circuit.proofs.Inverter.{coordinate_inverse}
-use Rattle.circuit.proofs.Linear.{sum_of, BytesAll}
+use Rattle.circuit.proofs.Linear.{BytesAll}
 use Rattle.circuit.proofs.Mix.{aff1, aff2, aff3}
 use Rattle.circuit.proofs.Round.{coordinate_mix, coordinate_add, coordinate_round}
 

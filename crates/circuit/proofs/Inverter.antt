@@ -12,7 +12,7 @@ use Rattle.circuit.specs.Places.{place, distinct, fits_all}
 use Rattle.circuit.specs.Claims.{Inverts}
 use Rattle.circuit.proofs.BitLaws.{table}
 use Rattle.circuit.proofs.Run.{run}
-use Rattle.circuit.proofs.Files.{Shows, File, Effect}
+use Rattle.circuit.proofs.Files.{Shows, Effect}
 use Rattle.standard.proofs.Tests.{tests, small_below}
 use Rattle.circuit.proofs.Unary.{wide, start, expected, same, Bytes, unary, unary-page}
 use Rattle.circuit.proofs.PlanLaws.{Proved}

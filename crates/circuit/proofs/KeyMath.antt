@@ -1,7 +1,7 @@
 -- The bytes of the key schedule in coordinates. Assumes nothing.
-use Rattle.std.proofs.Common.{◌≡◌, ℕ, zero, suc, ◌*◌, ◌%◌, ◌<◌, Bool, true, false, cond, leb, List, [], ◌∷◌, sym, refl, ap, ◌∙◌, ap₂, arith}
-use lib.Bits.{bit_xor, xor_zero_r, xor_lt}
-use Rattle.standard.specs.Field.{inverse, SBox, xtime}
+use Rattle.std.proofs.Common.{◌≡◌, ℕ, ◌<◌, [], ◌∷◌, sym, ap, ◌∙◌}
+use lib.Bits.{bit_xor, xor_zero_r}
+use Rattle.standard.specs.Field.{inverse, SBox}
 use Rattle.standard.specs.KeyExpansion.{Rcon}
 use Rattle.coordinates.specs.Coordinates.{to_coordinates}
 use Rattle.circuit.proofs.Unary.{same}

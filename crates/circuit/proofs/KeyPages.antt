@@ -1,7 +1,7 @@
 -- The pages of the key schedule, each by one run. Assumes nothing.
 use Rattle.plans.specs.declared.plays.Play.TheVariants.{Copy, Affine, Sum, Leave, Rcon1, Rcon2, Rcon3, Rcon4, Rcon5, Rcon6, Rcon7, Rcon8, Rcon9, Rcon10}
 use Rattle.std.proofs.Common.{◌≡◌, ℕ, zero, suc, ◌+◌, ◌-◌, ◌*◌, ◌<◌, ◌≤◌, T, List, [], ◌∷◌, get_or, take, refl, ◌∙◌, subst, arith}
-use mathlib.Core.Option.{Option, some, none}
+use mathlib.Core.Option.{none}
 use lib.Bits.{bit_xor}
 use lib.Lanes.{Each1}
 use Rattle.std.specs.List.{range_with_len}

@@ -1,6 +1,6 @@
 -- The claim about the scheduling. Assumes nothing.
-use Rattle.std.proofs.Common.{◌≡◌, ℕ, zero, suc, ◌+◌, ◌-◌, ◌*◌, ◌/◌, ◌%◌, ◌<◌, ◌≤◌, Bool, true, false, cond, ◌&&◌, eqb, ltb, leb, ◌⊎◌, List, [], ◌∷◌, ◌++◌, map, get_or, sym, refl, ap, ◌∙◌, subst, ap₂, inl, inr, arith}
-use mathlib.Core.Option.{Option, some, none}
+use Rattle.std.proofs.Common.{◌≡◌, ℕ, zero, suc, ◌+◌, ◌-◌, ◌*◌, ◌/◌, ◌%◌, ◌<◌, ◌≤◌, Bool, true, false, cond, ltb, leb, ◌⊎◌, List, [], ◌∷◌, map, get_or, sym, refl, ap, ◌∙◌, subst, ap₂, inl, inr, arith}
+use mathlib.Core.Option.{some}
 use lib.Lanes.{zip2}
 use Rattle.std.specs.List.{range_with_len}
 use Rattle.std.proofs.lemmas.Bool.{le-leb, lt-leb, lt-ltb, le-ltb, cases_lt, cases_eq, and_left, and_right, and_from}
@@ -18,8 +18,8 @@ use Rattle.circuit.proofs.Files.{Shows}
 use Rattle.circuit.proofs.PlanLaws.{Step}
 use Rattle.circuit.proofs.FileViews.{Shown}
 use Rattle.coordinates.proofs.CoordinateLaws.{from_to}
-use Rattle.standard.proofs.ByteLaws.{byte_of_small, byte_of_bit, map_below}
-use Rattle.circuit.proofs.Staged.{StageOk, stage, run_append, raw_shown, byte_read, bit_kept}
+use Rattle.standard.proofs.ByteLaws.{byte_of_small, map_below}
+use Rattle.circuit.proofs.Staged.{stage, run_append, raw_shown, byte_read, bit_kept}
 use Rattle.circuit.proofs.Keys.{last_value, between_value}
 use Rattle.circuit.proofs.KeyMath.{add2}
 use Rattle.standard.proofs.Words.{first_words, later_words}

@@ -1,8 +1,7 @@
 -- The round keys that a lane shows. Assumes nothing.
-use Rattle.std.proofs.Common.{◌≡◌, ℕ, suc, ◌+◌, ◌-◌, ◌*◌, ◌<◌, ◌≤◌, Bool, true, false, cond, ◌||◌, eqb, List, map, sym, refl, ap, ◌∙◌, ap₂, arith}
-use Rattle.std.specs.List.{range_with_len}
+use Rattle.std.proofs.Common.{◌≡◌, ℕ, suc, ◌+◌, ◌-◌, ◌*◌, ◌<◌, ◌≤◌, Bool, true, false, cond, ◌||◌, eqb, map, sym, refl, ap, ◌∙◌, ap₂, arith}
 use Rattle.std.proofs.lemmas.Bool.{ne_eqb, eq-eqb}
-use Rattle.standard.specs.Kinds.{KeyKind, aes128, rounds, sixteen}
+use Rattle.standard.specs.Kinds.{KeyKind, aes128, rounds}
 use Rattle.coordinates.specs.Coordinates.{to_coordinates, from_coordinates}
 use Rattle.plans.specs.Layout.{key}
 use Rattle.circuit.specs.Lanes.{Lane}

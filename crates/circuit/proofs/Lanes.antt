@@ -1,5 +1,5 @@
 -- A lane of the bench under a plan is the lane under the same plays. Assumes nothing.
-use Rattle.std.proofs.Common.{◌≡◌, ℕ, zero, suc, ◌+◌, ◌*◌, ◌<◌, ◌≤◌, Bool, true, false, cond, ◌&&◌, eqb, ltb, List, [], ◌∷◌, ◌++◌, map, sym, refl, ap, ◌∙◌, subst, ap₂, arith}
+use Rattle.std.proofs.Common.{◌≡◌, ℕ, ◌<◌, Bool, true, false, cond, ◌&&◌, eqb, ltb, List, [], ◌∷◌, map, sym, refl, ap, ◌∙◌, subst}
 use Rattle.std.proofs.lemmas.Bool.{lt-ltb}
 use Rattle.bench.specs.Kinds.{gate_result}
 use Rattle.bench.specs.Model.{Model, gated}
@@ -7,7 +7,7 @@ use Rattle.bench.specs.declared.gates.Gate.{Gate}
 use Rattle.player.specs.Pages.{gates_of, sockets_in}
 use Rattle.player.specs.Plays.{register_of, placed, ran, played}
 use Rattle.player.proofs.Played.{done}
-use Rattle.circuit.specs.Lanes.{Lane, gate_on, play_on, lane_of, play_lane, run_plan}
+use Rattle.circuit.specs.Lanes.{gate_on, play_on, lane_of, play_lane, run_plan}
 use Rattle.plans.specs.declared.plays.Play.{Play}
 use Rattle.plans.specs.Plays.{page_of, bases_of, do_play, planned}
 

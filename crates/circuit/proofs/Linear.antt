@@ -1,26 +1,17 @@
 -- A page of XOR and XNOR with q sockets in, by one run over masks: which inputs each number is the exclusive or of,
 -- and whether it is complemented. Assumes nothing.
-use Rattle.std.proofs.Common.{◌≡◌, ℕ, zero, suc, ◌+◌, ◌-◌, ◌*◌, ◌/◌, ◌%◌, ◌^◌, ◌<◌, ◌≤◌, Bool, true, false, cond, not, ◌&&◌, ◌||◌, T, eqb, ltb, ◌⊎◌, List, [], ◌∷◌, ◌++◌, map, length, get_or, take, drop, set, replicate, sym, refl, ap, ◌∙◌, subst, ap₂, inl, inr, arith, ltb→lt, T_not}
+use Rattle.std.proofs.Common.{◌≡◌, ℕ, zero, suc, ◌+◌, ◌*◌, ◌^◌, ◌<◌, Bool, true, false, cond, ◌&&◌, T, eqb, ltb, List, [], ◌∷◌, length, get_or, replicate, sym, refl, ap, ◌∙◌, ap₂, arith}
 use mathlib.Core.Option.{Option, some, none}
 use native.Mathlib.Nat.{zero-div}
 use lib.Bits.{bit_xor, xor_lt}
-use lib.Dec.{eqb_refl}
-use Rattle.std.specs.List.{range_with_len}
-use Rattle.std.proofs.lemmas.Bool.{cases_lt, ne_eqb, cases_eq}
-use Rattle.std.proofs.lemmas.List.{get_or-take, get_or-drop, get_or_append_left, get_or-append_right, length-append, length-map, length-replicate}
-use Rattle.std.proofs.lemmas.List.FromFn.{get_or-map-range_with_len, length-range_with_len}
 use Rattle.standard.specs.States.{Bytes as AllBytes}
 use Rattle.standard.specs.Bits.{bit, odd}
 use Rattle.bench.specs.Kinds.{apart as xor_b, gate_result}
 use Rattle.coordinates.specs.Coordinates.{combine}
 use Rattle.bench.specs.declared.kinds.Kind.{Kind}
-use Rattle.bench.specs.declared.gates.Gate.{Gate}
 use Rattle.bench.specs.declared.kinds.Kind.TheVariants.{Xor, And, Or, Xnor, Nand, Nor}
-use Rattle.circuit.specs.Lanes.{Lane, play_on, gate_on}
-use Rattle.circuit.specs.Places.{place, distinct, fits_all, fits_gate}
-use Rattle.circuit.proofs.Files.{Shows, File, Effect, place_apart, place_at}
-use Rattle.circuit.proofs.BitLaws.{bit_xor_lem, xor_b_assoc, xor_b_comm, xor_b_left_comm, xor_b_false}
-use Rattle.circuit.proofs.Run.{run, Tells, tells-after, Apart, and_l, and_r}
+use Rattle.circuit.proofs.BitLaws.{bit_xor_lem, xor_b_assoc, xor_b_left_comm, xor_b_false}
+use Rattle.circuit.proofs.Run.{and_l, and_r}
 use Rattle.standard.proofs.Tests.{tests, equal_below, small_below}
 
 -- ---- masks

@@ -1,14 +1,13 @@
 -- A page of XOR and XNOR, from its masks to what it does to whole bytes. Assumes nothing.
-use Rattle.std.proofs.Common.{◌≡◌, ℕ, zero, suc, ◌+◌, ◌-◌, ◌*◌, ◌/◌, ◌%◌, ◌^◌, ◌<◌, ◌≤◌, Bool, true, false, cond, not, ◌&&◌, ◌||◌, T, eqb, ltb, ◌⊎◌, List, [], ◌∷◌, ◌++◌, map, length, get_or, take, drop, set, replicate, sym, refl, ap, ◌∙◌, subst, ap₂, inl, inr, arith, ltb→lt, T_not}
+use Rattle.std.proofs.Common.{◌≡◌, ℕ, zero, suc, ◌+◌, ◌-◌, ◌*◌, ◌/◌, ◌%◌, ◌<◌, ◌≤◌, Bool, true, false, cond, not, ◌&&◌, T, eqb, ltb, ◌⊎◌, List, [], ◌∷◌, ◌++◌, map, length, get_or, take, drop, replicate, sym, refl, ap, ◌∙◌, subst, ap₂, inl, inr, arith, ltb→lt, T_not}
 use mathlib.Core.Option.{Option, some, none}
 use lib.Dec.{eqb_refl}
 use Rattle.std.specs.List.{range_with_len}
-use Rattle.std.proofs.lemmas.Bool.{cases_lt, ne_eqb, cases_eq}
+use Rattle.std.proofs.lemmas.Bool.{cases_lt, ne_eqb}
 use Rattle.std.proofs.lemmas.List.{get_or-take, get_or-drop, get_or_append_left, get_or-append_right, length-append, length-map, length-replicate}
 use Rattle.std.proofs.lemmas.List.FromFn.{get_or-map-range_with_len, length-range_with_len}
-use Rattle.standard.specs.Bits.{bit, odd}
-use Rattle.bench.specs.Kinds.{apart as xor_b, gate_result}
-use Rattle.bench.specs.declared.kinds.Kind.{Kind}
+use Rattle.standard.specs.Bits.{bit}
+use Rattle.bench.specs.Kinds.{gate_result}
 use Rattle.bench.specs.declared.gates.Gate.{Gate}
 use Rattle.circuit.specs.Lanes.{Lane, play_on, gate_on}
 use Rattle.circuit.specs.Places.{place, distinct, fits_all, fits_gate}

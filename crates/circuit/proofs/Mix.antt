@@ -1,18 +1,14 @@
 -- The page of the affine map and MixColumns, and the page that adds a byte, by their masks. Assumes nothing.
-use Rattle.std.proofs.Common.{◌≡◌, ℕ, zero, suc, ◌+◌, ◌*◌, ◌<◌, ◌≤◌, T, List, [], ◌∷◌, map, length, get_or, take, drop, sym, refl, ap, ◌∙◌, subst, arith}
-use mathlib.Core.Option.{Option, some, none}
-use Rattle.standard.specs.Field.{inverse, affine, mul}
+use Rattle.std.proofs.Common.{ℕ, T, List, [], ◌∷◌, refl}
+use Rattle.standard.specs.Field.{affine, mul}
 use Rattle.coordinates.specs.Coordinates.{to_coordinates, from_coordinates}
-use Rattle.bench.specs.declared.gates.Gate.{Gate}
-use Rattle.bench.specs.declared.kinds.Kind.{Kind}
 use Rattle.player.specs.Pages.{gates_of}
 use Rattle.plans.specs.Pages.{mix_page, add_page}
-use Rattle.circuit.proofs.Run.{run}
 use Rattle.circuit.specs.Places.{fits_all}
 use Rattle.circuit.proofs.Unary.{same}
 use Rattle.circuit.proofs.Files.{Effect}
 use Rattle.circuit.proofs.Linear.{affine_by, affine_by_lem, Affine}
-use Rattle.circuit.proofs.LinearPage.{Row, keep, junk, sum, RowsOk, spares, masks, mask_run, linear, linear_page}
+use Rattle.circuit.proofs.LinearPage.{Row, keep, sum, RowsOk, spares, masks, mask_run, linear, linear_page}
 
 unfoldable pub aff1 : ℕ → ℕ
 unfolding to_coordinates affine from_coordinates

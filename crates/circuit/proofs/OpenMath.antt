@@ -1,18 +1,15 @@
 -- A round of the opening in coordinates is that of FIPS 197, and its states are bytes. Assumes nothing.
-use Rattle.std.proofs.Common.{◌≡◌, ℕ, zero, suc, ◌+◌, ◌-◌, ◌*◌, ◌%◌, ◌<◌, List, [], ◌∷◌, map, get_or, sym, refl, ap, ◌∙◌, ap₂, arith}
+use Rattle.std.proofs.Common.{◌≡◌, ℕ, ◌*◌, ◌%◌, ◌<◌, List, [], ◌∷◌, map, get_or, refl, ap, ◌∙◌}
 use mathlib.Core.Path.{fun_ext}
-use lib.Bits.{bit_xor, xor_lt, xor_zero_r}
 use Rattle.std.specs.List.{range_with_len}
-use Rattle.standard.specs.Cipher.{AddRoundKey, InvSubBytes, InvShiftRows, InvMixColumns, inv_state_after}
+use Rattle.standard.specs.Cipher.{AddRoundKey, InvSubBytes, InvShiftRows, InvMixColumns}
 use Rattle.standard.specs.Kinds.{sixteen}
-use Rattle.coordinates.specs.Coordinates.{to_coordinates, from_coordinates}
-use Rattle.standard.specs.Field.{inverse, inv_affine, InvSBox, mul}
-use Rattle.standard.proofs.Tests.{tests, small_below}
+use Rattle.coordinates.specs.Coordinates.{to_coordinates}
+use Rattle.standard.specs.Field.{inv_affine, InvSBox, mul}
 use Rattle.circuit.proofs.Linear.{BytesAll}
 use Rattle.circuit.proofs.Inverter.{coordinate_inverse}
-use Rattle.circuit.proofs.Round.{coordinate_add}
 use Rattle.circuit.proofs.Unmix.{times}
-use Rattle.circuit.proofs.InCoordinates.{inv_to, coordinate_add_lem, sum4, cons4}
+use Rattle.circuit.proofs.InCoordinates.{inv_to, sum4, cons4}
 use Rattle.standard.proofs.FieldLaws.{inv_affine_byte, InvSBox_byte}
 use Rattle.standard.proofs.StateLaws.{add_bytes, bytes_at, bytes_map}
 use Rattle.coordinates.proofs.CoordinateLaws.{from_to}

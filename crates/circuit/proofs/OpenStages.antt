@@ -1,6 +1,6 @@
 -- The stages of an opening, each by one computation on open bytes. Assumes nothing.
 use Rattle.plans.specs.declared.plays.Play.TheVariants.{Unaffine, Unmix}
-use Rattle.std.proofs.Common.{◌≡◌, ℕ, zero, suc, ◌+◌, ◌-◌, ◌*◌, ◌%◌, ◌<◌, ◌≤◌, Bool, true, false, cond, T, eqb, List, [], ◌∷◌, ◌++◌, map, length, get_or, take, sym, refl, ap, ◌∙◌, subst, ap₂, arith}
+use Rattle.std.proofs.Common.{◌≡◌, ℕ, ◌+◌, ◌-◌, ◌*◌, ◌%◌, ◌≤◌, true, cond, T, eqb, List, [], ◌∷◌, ◌++◌, map, length, get_or, take, sym, refl, ◌∙◌, subst, arith}
 use mathlib.Core.Option.{Option, some, none}
 use lib.Lanes.{Each1}
 use Rattle.std.specs.List.{range_with_len}
@@ -17,7 +17,7 @@ use Rattle.circuit.proofs.Run.{run}
 use Rattle.circuit.specs.Places.{fits_all}
 use Rattle.circuit.proofs.Files.{Effect, File}
 use Rattle.standard.proofs.Tests.{tests, small_below}
-use Rattle.circuit.proofs.Unary.{wide, start, expected, unary}
+use Rattle.circuit.proofs.Unary.{wide, unary}
 use Rattle.circuit.proofs.Linear.{sum_of}
 use Rattle.circuit.proofs.LinearPage.{linear}
 use Rattle.standard.specs.Kinds.{KeyKind, aes128, rounds}

@@ -1,9 +1,9 @@
 -- The claim about the opening. Assumes nothing.
-use Rattle.std.proofs.Common.{◌≡◌, ℕ, zero, suc, ◌+◌, ◌-◌, ◌*◌, ◌<◌, ◌≤◌, Bool, cond, eqb, List, [], ◌∷◌, ◌++◌, map, get_or, sym, refl, ap, ◌∙◌, subst, ap₂, arith}
+use Rattle.std.proofs.Common.{◌≡◌, ℕ, zero, suc, ◌-◌, ◌*◌, ◌<◌, ◌≤◌, Bool, cond, eqb, List, [], ◌∷◌, ◌++◌, map, get_or, sym, refl, ap, ◌∙◌, subst, ap₂, arith}
 use Rattle.std.specs.List.{range_with_len}
 use Rattle.std.proofs.lemmas.Bool.{ne_eqb, eq-eqb}
-use Rattle.standard.specs.Cipher.{AddRoundKey, InvSubBytes, InvShiftRows, InvMixColumns, inv_state_after, InvCipher}
-use Rattle.standard.specs.Kinds.{KeyKind, aes128, rounds, sixteen}
+use Rattle.standard.specs.Cipher.{AddRoundKey, InvSubBytes, InvShiftRows, inv_state_after, InvCipher}
+use Rattle.standard.specs.Kinds.{KeyKind, rounds, sixteen}
 use Rattle.coordinates.specs.Coordinates.{to_coordinates, from_coordinates}
 use Rattle.plans.specs.Layout.{free}
 use Rattle.plans.specs.Plans.{open_stage, open_to}

@@ -1,21 +1,17 @@
 -- The stages of a sealing, each by one computation on open bytes. Assumes nothing.
-use Rattle.std.proofs.Common.{◌≡◌, ℕ, zero, suc, ◌+◌, ◌-◌, ◌*◌, ◌%◌, ◌<◌, ◌≤◌, Bool, true, false, cond, T, eqb, List, [], ◌∷◌, ◌++◌, map, length, get_or, take, sym, refl, ap, ◌∙◌, subst, ap₂, arith}
-use mathlib.Core.Option.{Option, some, none}
+use Rattle.std.proofs.Common.{◌≡◌, ℕ, ◌+◌, ◌-◌, ◌*◌, ◌%◌, ◌≤◌, true, cond, T, eqb, List, [], ◌∷◌, ◌++◌, map, length, take, sym, refl, ◌∙◌, subst, arith}
+use mathlib.Core.Option.{Option, some}
 use lib.Lanes.{Each1}
 use Rattle.std.specs.List.{range_with_len}
 use Rattle.std.proofs.lemmas.Simd.{Each1-get_or}
-use Rattle.std.proofs.lemmas.List.FromFn.{get_or-range_with_len, length-range_with_len, get_or-map-range_with_len}
+use Rattle.std.proofs.lemmas.List.FromFn.{get_or-range_with_len, length-range_with_len}
 use Rattle.standard.specs.Cipher.{ShiftRows}
 use Rattle.coordinates.specs.Coordinates.{to_coordinates}
 use Rattle.circuit.proofs.Inverter.{coordinate_inverse, inverter}
 use Rattle.circuit.proofs.Ends.{enterer, finisher, finish}
-use Rattle.circuit.proofs.Files.{Effect, File}
-use Rattle.circuit.proofs.Unary.{same, unary}
-use Rattle.player.specs.Pages.{gates_of, sockets_in}
-use Rattle.plans.specs.declared.plays.Play.{Play}
-use Rattle.plans.specs.declared.plays.Play.TheVariants.{Invert}
+use Rattle.circuit.proofs.Files.{File}
 use Rattle.circuit.specs.Claims.{Inverts}
-use Rattle.circuit.proofs.PlanLaws.{Proved, Step, step, play_of, lawful_all, file_after}
+use Rattle.circuit.proofs.PlanLaws.{Step, step, play_of, lawful_all, file_after}
 use Rattle.circuit.proofs.Round.{coordinate_round, coordinate_add, key_bytes_at, adder, mixer}
 use Rattle.standard.specs.Kinds.{KeyKind, aes128, rounds}
 use Rattle.plans.specs.Layout.{free}

@@ -8,7 +8,6 @@ use Rattle.standard.specs.Field.{inverse, affine, SBox}
 use Rattle.standard.specs.Cipher.{ShiftRows, SubBytes, AddRoundKey, Round, state_after, Cipher}
 use Rattle.standard.specs.Kinds.{KeyKind, aes128, rounds, sixteen}
 use Rattle.coordinates.specs.Coordinates.{to_coordinates, from_coordinates}
-use Rattle.plans.specs.declared.plays.Play.{Play}
 use Rattle.plans.specs.Layout.{free}
 use Rattle.plans.specs.Plans.{stage_plan, stages_to}
 use Rattle.circuit.specs.Lanes.{Lane, run_plan}

@@ -1,9 +1,9 @@
 -- A page with one socket in, by one run over numbers of 256 bits: lane v is the input v. Assumes nothing.
-use Rattle.std.proofs.Common.{◌≡◌, ℕ, zero, suc, ◌+◌, ◌-◌, ◌*◌, ◌/◌, ◌%◌, ◌^◌, ◌<◌, ◌≤◌, Bool, true, false, cond, not, ◌&&◌, ◌||◌, T, eqb, ltb, ◌⊎◌, List, [], ◌∷◌, ◌++◌, map, length, get_or, take, set, replicate, sym, refl, ap, ◌∙◌, subst, ap₂, inl, inr, arith, ltb→lt}
+use Rattle.std.proofs.Common.{◌≡◌, ℕ, zero, suc, ◌+◌, ◌-◌, ◌*◌, ◌^◌, ◌<◌, ◌≤◌, Bool, true, not, ◌&&◌, ◌||◌, T, ◌⊎◌, List, [], ◌∷◌, map, length, get_or, take, replicate, sym, refl, ap, ◌∙◌, subst, ap₂, inl, inr, arith}
 use mathlib.Core.Option.{Option, some, none}
 use lib.Bits.{bit_and, bit_or, bit_xor}
 use Rattle.std.proofs.lemmas.Bool.{cases_lt}
-use Rattle.std.proofs.lemmas.List.{get_or-take, get_or-replicate, length-replicate}
+use Rattle.std.proofs.lemmas.List.{get_or-take, length-replicate}
 use Rattle.standard.specs.Bits.{bit}
 use Rattle.bench.specs.Kinds.{apart as xor_b, gate_result}
 use Rattle.circuit.proofs.BitLaws.{table, bit_xor_lem, bit_and_lem, bit_or_lem, bit_table}

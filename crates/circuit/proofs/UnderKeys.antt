@@ -1,6 +1,5 @@
 -- The round keys depend on the key's bytes, and on nothing past them. Assumes nothing.
-use Rattle.std.proofs.Common.{◌≡◌, ℕ, zero, suc, ◌+◌, ◌-◌, ◌*◌, ◌/◌, ◌%◌, ◌<◌, ◌≤◌, List, [], ◌∷◌, ◌++◌, map, get_or, sym, refl, ap, ◌∙◌, ap₂, arith}
-use Rattle.std.specs.List.{range_with_len}
+use Rattle.std.proofs.Common.{◌≡◌, ℕ, zero, suc, ◌+◌, ◌-◌, ◌*◌, ◌/◌, ◌%◌, ◌<◌, List, [], ◌∷◌, ◌++◌, get_or, sym, ap, arith}
 use Rattle.std.proofs.lemmas.List.FromFn.{get_or-map-range_with_len}
 use Rattle.standard.specs.KeyExpansion.{Word, key_word, xor_word, temp, KeyExpansion, word_at, round_key_byte}
 use Rattle.standard.specs.Kinds.{KeyKind, key_words, key_bytes, sixteen, byte_at as byte_in, round_key}

@@ -1,6 +1,5 @@
 -- InvMixColumns in coordinates: the same lemma, another matrix. Assumes nothing.
-use Rattle.std.proofs.Common.{◌≡◌, ℕ, ◌+◌, ◌*◌, T, List, [], ◌∷◌, length, get_or, take, drop, refl}
-use mathlib.Core.Option.{Option, some, none}
+use Rattle.std.proofs.Common.{ℕ, T, List, [], ◌∷◌, refl}
 use Rattle.coordinates.specs.Coordinates.{to_coordinates, from_coordinates}
 use Rattle.standard.specs.Field.{mul}
 use Rattle.player.specs.Pages.{gates_of}
@@ -8,7 +7,7 @@ use Rattle.plans.specs.Pages.{unmix_page}
 use Rattle.circuit.specs.Places.{fits_all}
 use Rattle.circuit.proofs.Files.{Effect}
 use Rattle.circuit.proofs.Linear.{affine_by, affine_by_lem, Affine}
-use Rattle.circuit.proofs.LinearPage.{Row, keep, junk, sum, RowsOk, spares, masks, mask_run, linear, linear_page}
+use Rattle.circuit.proofs.LinearPage.{Row, keep, sum, RowsOk, spares, masks, mask_run, linear, linear_page}
 
 -- the product by m, in coordinates
 unfoldable pub times : ℕ → ℕ → ℕ

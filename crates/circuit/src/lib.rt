@@ -1,4 +1,6 @@
 // What the plans do to every lane, in the words of FIPS 197, whatever page is played as the inverter.
+#![tactic(auto)]
+
 ghost use Rattle.std.specs.Prelude.{ℕ, List};
 ghost use Rattle.standard.specs.Kinds.{KeyKind};
 ghost use Rattle.plans.specs.Pages.{own_inverter};

@@ -1,4 +1,6 @@
 // Answers the script on standard input, on standard output.
+#![tactic(auto)]
+
 use consoling::runs::console_script;
 use std::io;
 use std::io::{Read, Write};

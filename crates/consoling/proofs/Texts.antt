@@ -1,5 +1,5 @@
 -- The text of a script and the law over it, from their parts. Assumes nothing.
-use Rattle.std.proofs.Common.{◌≡◌, ℕ, Bool, true, false, cond, List, [], ◌∷◌, ◌++◌, length, IfOk, Ok, Err, codes, Result, sym, refl, ap, ◌∙◌, subst, ap₂, append-nil}
+use Rattle.std.proofs.Common.{◌≡◌, ℕ, Bool, true, false, List, [], ◌∷◌, ◌++◌, IfOk, Ok, Err, codes, Result, sym, ap, ◌∙◌, subst, ap₂, append-nil}
 use Rattle.std.proofs.lemmas.Bool.{cond-true, cond-false}
 use Rattle.playing.specs.declared.answers.Answer.TheVariants.{Unreadable}
 use Rattle.playing.specs.declared.setups.Setup.{Setup}
@@ -9,8 +9,8 @@ use Rattle.law.specs.Calls.{Asked, Line, log}
 use Rattle.consoling.specs.declared.turns.Turn.{Turn}
 use Rattle.consoling.specs.declared.turns.Found.{Found}
 use Rattle.consoling.specs.declared.turns.Found.TheVariants as found
-use Rattle.consoling.specs.Scripts.{turns_in, calls_in, parted_in, beyond, number_beyond, found_in, past_bench, number_past, Parted}
-use Rattle.consoling.specs.Runs.{unit_on, answers_text, part_text, second_text, beside_text, both_text, Ran, RanBoth, LawOne, LawTwo, LawBeside, LawParted, LawBoth}
+use Rattle.consoling.specs.Scripts.{calls_in, parted_in, beyond, number_beyond, found_in, past_bench, number_past, Parted}
+use Rattle.consoling.specs.Runs.{unit_on, answers_text, part_text, second_text, beside_text, both_text, Ran, RanBoth, LawOne, LawTwo, LawParted, LawBoth}
 
 abbrev pub beside_line : List ℕ
 beside_line = codes "beside" ++ (10 ∷ [])

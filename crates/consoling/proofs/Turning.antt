@@ -1,11 +1,10 @@
 -- One turn written. Assumes nothing.
-use Rattle.std.proofs.Common.{◌≡◌, ℕ, ◌+◌, ◌<◌, ◌≤◌, List, [], ◌∷◌, ◌++◌, length, get_or, drop, sym, refl, ap, ◌∙◌, ap₂, append_assoc, arith}
+use Rattle.std.proofs.Common.{◌≡◌, ℕ, ◌+◌, ◌<◌, ◌≤◌, List, [], ◌∷◌, ◌++◌, length, get_or, drop, sym, ap, ◌∙◌, ap₂, append_assoc, arith}
 use Rattle.std.proofs.lemmas.List.{drop_more, drop_all}
 use Rattle.playing.specs.declared.answers.Answer.TheVariants.{Unreadable}
 use Rattle.playing.specs.Answers.{answer_line}
 use Rattle.law.specs.declared.calls.Entry.{Entry}
 use Rattle.law.specs.Calls.{line, lines}
-use Rattle.consoling.specs.declared.turns.Turn.{Turn}
 use Rattle.consoling.specs.declared.turns.Turn.TheVariants as turn
 use Rattle.consoling.specs.Answers.{answer_text}
 use Rattle.consoling.specs.Runs.{answers_text, Turned}

@@ -1,5 +1,5 @@
 -- No answer of a unit hangs on where the memory of its bench lies. Assumes nothing.
-use Rattle.std.proofs.Common.{◌≡◌, List, [], ◌∷◌, Some, None, Option, sym, refl, ap, ◌∙◌, ap₂}
+use Rattle.std.proofs.Common.{◌≡◌, List, [], ◌∷◌, Some, None, Option, refl, ap, ◌∙◌, ap₂}
 use Rattle.bench.specs.Model.{Model, Memory}
 use Rattle.bench.specs.declared.faults.Fault.{Fault}
 use Rattle.lanetable.specs.declared.records.LaneRecord.{LaneRecord}

@@ -3,7 +3,7 @@
 --   verb_in w       the call that the word w names
 --   call_of v a b   the call of the name v with the words a and b after it, empty where there is none
 --   call_in l       the call that the line l writes
-use Rattle.std.specs.Prelude.{ℕ, Bool, cond, List, [], length, drop, replicate, Some, None, codes, Option, ◌==◌, slice_index_or}
+use Rattle.std.specs.Prelude.{ℕ, cond, List, [], length, drop, replicate, Some, None, codes, Option, ◌==◌, slice_index_or}
 use Rattle.std.specs.Option.{option_map}
 use Rattle.std.specs.Str.{bytes_eq}
 use Rattle.text.specs.Text.{number_in, bytes_in, words_in}

@@ -6,6 +6,8 @@
 //   scripts   reading the lines of a script
 //   writers   writing answers
 //   runs      a whole script, on one unit or on two
+#![tactic(auto)]
+
 pub mod readers;
 pub mod runs;
 pub mod scripts;

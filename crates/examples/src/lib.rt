@@ -1,4 +1,5 @@
 // Examples of what the libraries do, as tests.
+#![tactic(auto)]
 
 #[cfg(test)]
 mod lines {
@@ -60,7 +61,10 @@ mod scripts {
     #[test]
     fn bench_lines(rt: HostRuntime) -> Result<(), Fail> {
         let heap = rt.alloc();
-        assert_eq!(rt; play_script(heap, b"# no bench\n\n")?.as_slice(), b"".as_slice());
+        assert_eq!(rt;
+            play_script(heap, b"# no bench\n\n")?.as_slice(),
+            b"".as_slice()
+        );
         assert_eq!(rt;
             play_script(heap, b"\nbench word 8\nleft\n")?.as_slice(),
             b"unreadable 2\n".as_slice()
@@ -155,7 +159,10 @@ mod console {
     #[test]
     fn bench_lines(rt: HostRuntime) -> Result<(), Fail> {
         let heap = rt.alloc();
-        assert_eq!(rt; console_script(heap, b"# no bench\n\n")?.as_slice(), b"".as_slice());
+        assert_eq!(rt;
+            console_script(heap, b"# no bench\n\n")?.as_slice(),
+            b"".as_slice()
+        );
         assert_eq!(rt;
             console_script(heap, b"\nbench word 8\nleft\n")?.as_slice(),
             b"unreadable 2\n".as_slice()

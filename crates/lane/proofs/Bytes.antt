@@ -1,5 +1,5 @@
 -- A byte from its bits, the highest first. Assumes nothing.
-use Rattle.std.proofs.Common.{◌≡◌, ℕ, zero, suc, ◌+◌, ◌-◌, ◌*◌, ◌^◌, ◌<◌, ◌≤◌, Bool, true, false, cond, List, [], ◌∷◌, map, length, sym, refl, ap, ◌∙◌, ap₂, arith, pow_mono}
+use Rattle.std.proofs.Common.{◌≡◌, ℕ, suc, ◌+◌, ◌-◌, ◌*◌, ◌^◌, ◌<◌, ◌≤◌, Bool, true, false, cond, map, length, refl, ap, ◌∙◌, arith, pow_mono}
 use lib.Lanes.{mask_l}
 use mir.Val.{bool_byte}
 use Rattle.std.specs.List.{range_with_len}

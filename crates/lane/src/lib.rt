@@ -1,6 +1,8 @@
 // Bytes in the registers of one lane: placed, read and zeroed, on any bench.
 //
 // Bit i of byte j lies in register base + 8·j + i, bit 0 the lowest.
+#![tactic(auto)]
+
 ghost use Rattle.std.specs.Prelude.{◌≡◌, ℕ, ◌+◌, ◌*◌, ◌^◌, ◌<◌, ◌≤◌, length};
 ghost use Rattle.standard.specs.Bits.{bit, byte_of};
 ghost use Rattle.bench.specs.Model.{told, after};

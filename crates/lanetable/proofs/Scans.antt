@@ -1,12 +1,10 @@
 -- One step of a scan over the records, and its end. Assumes nothing.
-use Rattle.std.proofs.Common.{◌≡◌, ℕ, ◌+◌, ◌<◌, ◌≤◌, Bool, true, false, cond, not, ◌&&◌, ◌||◌, List, [], ◌∷◌, ◌++◌, map, length, get_or, take, drop, set, Some, None, Option, sym, refl, ap, ◌∙◌, arith}
+use Rattle.std.proofs.Common.{◌≡◌, ℕ, ◌+◌, ◌<◌, ◌≤◌, Bool, true, false, cond, not, ◌&&◌, ◌||◌, List, [], ◌∷◌, ◌++◌, map, length, get_or, take, drop, set, Some, None, sym, refl, ap, ◌∙◌, arith}
 use Rattle.std.proofs.lemmas.List.{at_drop_more, at_drop_all, take_more, take_all, drop_all, drop_more, append-nil, append_assoc, map_push, set-append_right, length-map, length-take-le, get_or-append_right, set-get_or}
 use Rattle.lanetable.specs.declared.records.LaneRecord.{LaneRecord}
 use Rattle.lanetable.specs.declared.records.KeyState.{KeyState}
-use Rattle.lanetable.specs.declared.records.KeyState.TheVariants.{Absent, Placed, Scheduled}
-use Rattle.std.proofs.lemmas.Bool.{true≢false, false≢true}
 use Rattle.lanetable.specs.Records.{empty, promotes, promoted}
-use Rattle.lanetable.specs.Records.{any_placed, any_block, is_placed, lowest_unready, lowest_from, unready}
+use Rattle.lanetable.specs.Records.{lowest_unready, lowest_from, unready}
 
 or_true : (p q : Bool) → p ≡ true → true ≡ (p || q)
 or_true p q e = ap (λ x. true) e ∙ sym (ap (λ x. x || q) e)

@@ -2,5 +2,7 @@
 //
 //   records   what is recorded of one lane
 //   table     the records of all lanes
+#![tactic(auto)]
+
 pub mod records;
 pub mod table;

@@ -1,8 +1,7 @@
 -- A unit beside the book: what the registers of a lane show, by its record. Assumes nothing.
-use Rattle.std.proofs.Common.{◌≡◌, ℕ, zero, suc, ◌+◌, ◌-◌, ◌*◌, ◌<◌, ◌≤◌, Bool, true, false, cond, not, ◌&&◌, eqb, ltb, leb, ◌⊎◌, List, [], ◌∷◌, map, length, get_or, set, replicate, Some, None, Option, sym, refl, ap, ◌∙◌, subst, ap₂, inl, inr, ⊎_elim, arith}
-use Rattle.std.specs.List.{range_with_len}
+use Rattle.std.proofs.Common.{◌≡◌, ℕ, zero, suc, ◌+◌, ◌*◌, ◌<◌, ◌≤◌, Bool, true, false, cond, not, ◌&&◌, eqb, List, [], ◌∷◌, length, get_or, set, replicate, Some, None, Option, sym, refl, ap, ◌∙◌, subst, ap₂, inl, inr, ⊎_elim, arith}
 use Rattle.std.proofs.lemmas.List.{length-set, length-map, length-replicate, get_or-replicate, get_or_past, get_or-set_same, get_or-set_other, get_or-map}
-use Rattle.std.proofs.lemmas.Bool.{eq-eqb, ne_eqb, cases_eq, cases_lt, true≢false, false≢true}
+use Rattle.std.proofs.lemmas.Bool.{eq-eqb, ne_eqb, cases_eq, cases_lt, true≢false}
 use Rattle.standard.specs.Cipher.{Cipher, InvCipher}
 use Rattle.standard.specs.Kinds.{rounds, round_key, encrypted, decrypted, key_bytes}
 use Rattle.bench.specs.declared.faults.Fault.{Fault}
@@ -14,18 +13,18 @@ use Rattle.plans.specs.Pages.{own_inverter}
 use Rattle.lanetable.specs.declared.records.KeyState.{KeyState}
 use Rattle.lanetable.specs.declared.records.KeyState.TheVariants.{Absent, Placed, Scheduled}
 use Rattle.lanetable.specs.declared.records.LaneRecord.{LaneRecord}
-use Rattle.lanetable.specs.Records.{empty, promoted, promotes, is_scheduled, unready, lowest_unready, lowest_from}
-use Rattle.unit.specs.Works.{kind, worked, K, S, O}
+use Rattle.lanetable.specs.Records.{empty, promoted, promotes, is_scheduled, unready, lowest_from}
+use Rattle.unit.specs.Works.{kind, worked, S, O}
 use Rattle.unit.specs.View.{View, Shape, shape, made}
 use Rattle.unit.specs.Lanes.{state_of, key_of, round_shown}
 use Rattle.unit.specs.Answers.{settled}
 use Rattle.unit.proofs.Bytes.{shown_state, shown_key, same_state, same_key, same_rounds}
 use Rattle.standard.proofs.Loops.{same_cipher, same_inv_cipher}
 use Rattle.unit.proofs.Planned.{planned_lanes, plan_expands, plan_enciphers, plan_deciphers}
-use Rattle.unit.proofs.Settled.{naming_tells, placing_tells, reading_tells, scheduling_tells, working_tells}
-use Rattle.law.specs.Calls.{Asked, place_key, place_block, clear, schedule, seal, unseal, read, counts, left, record_of, unready as unready-lane, accepted, told, answered, answer, refusal, performed, next, done, filled}
+use Rattle.unit.proofs.Settled.{naming_tells, placing_tells, scheduling_tells, working_tells}
+use Rattle.law.specs.Calls.{Asked, place_key, place_block, clear, schedule, seal, unseal, read, counts, left, record_of, unready as unready-lane, accepted, told, answered, refusal, performed, next, done, filled}
 pub use Rattle.law.specs.Sound.{Sound, AllSound}
-use Rattle.law.specs.Book.{Page, Book, blank, through, turned, wrote, entered}
+use Rattle.law.specs.Book.{Page, Book, blank, through, wrote, entered}
 
 -- ---- the invariant
 

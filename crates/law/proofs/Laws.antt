@@ -1,5 +1,5 @@
 -- The laws of every list of calls, by induction on the list. Assumes nothing.
-use Rattle.std.proofs.Common.{◌≡◌, ℕ, ◌+◌, ◌-◌, ◌*◌, ◌<◌, ◌≤◌, Bool, true, false, cond, ◌&&◌, eqb, ◌⊎◌, List, [], ◌∷◌, ◌++◌, length, get_or, set, Some, None, Option, sym, refl, ap, ◌∙◌, subst, inl, inr, ⊎_elim, arith}
+use Rattle.std.proofs.Common.{◌≡◌, ℕ, ◌+◌, ◌-◌, ◌*◌, ◌≤◌, Bool, true, false, cond, ◌&&◌, eqb, ◌⊎◌, List, [], ◌∷◌, ◌++◌, length, get_or, set, Some, None, Option, sym, refl, ap, ◌∙◌, inl, inr, ⊎_elim, arith}
 use Rattle.std.proofs.lemmas.Bool.{ne_eqb, true≢false, false≢true}
 use Rattle.standard.specs.Kinds.{encrypted, decrypted, key_bytes}
 use Rattle.bench.specs.declared.faults.Fault.{Fault}
@@ -16,12 +16,12 @@ use Rattle.unit.specs.Lanes.{state_of}
 use Rattle.unit.specs.Answers.{placing, reading, settled}
 use Rattle.unit.proofs.Settled.{reading_tells, scheduling_tells, working_tells}
 use Rattle.law.specs.declared.calls.Answer.{Answer}
-use Rattle.law.specs.declared.calls.Answer.TheVariants.{Refused, Done}
+use Rattle.law.specs.declared.calls.Answer.TheVariants.{Done}
 use Rattle.law.specs.Calls.{Asked, place_key, place_block, clear, schedule, seal, unseal, read, counts, left, record_of, unready, Line, accepted, told, answered, answer, refusal, performed, next, done, filled, lane_of, log, ran}
 use Rattle.law.specs.Book.{Page, Book, blank, turned, wrote, entered, kept}
-use Rattle.law.specs.Law.{Readings, Charged, count, is_schedule, is_seal, is_open, Alike, same, key_elsewhere, block_elsewhere, Agree, Each}
+use Rattle.law.specs.Law.{Readings, Charged, is_schedule, is_seal, is_open, Alike, same, key_elsewhere, block_elsewhere, Agree, Each}
 use Rattle.unit.proofs.Planned.{planned_registers, planned_lanes, worked_falls}
-use Rattle.law.proofs.Holds.{Sound, AllSound, Holds, HoldsBlock, made_holds, next_holds, entered_is}
+use Rattle.law.proofs.Holds.{AllSound, Holds, HoldsBlock, made_holds, next_holds, entered_is}
 
 absurdity : {X : Type 0} → ◌≡◌ {A = ℕ} 0 1 → X
 absurdity z = absurd (omega arith)

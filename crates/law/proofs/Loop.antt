@@ -1,9 +1,9 @@
 -- One turn of a run, and its end. Assumes nothing.
-use Rattle.std.proofs.Common.{◌≡◌, ℕ, ◌+◌, ◌<◌, ◌≤◌, List, [], ◌∷◌, ◌++◌, map, length, get_or, take, drop, set, sym, refl, ap, ◌∙◌, subst, ap₂, add-zero, arith}
+use Rattle.std.proofs.Common.{◌≡◌, ℕ, ◌+◌, ◌<◌, ◌≤◌, List, [], ◌∷◌, ◌++◌, length, get_or, take, drop, set, sym, ap, ◌∙◌, subst, ap₂, add-zero, arith}
 use Rattle.std.proofs.lemmas.List.{take_more, take_more_set, map_push, get_or-drop, drop-drop, drop-set-lt, take_all}
 use Rattle.unit.specs.View.{View}
 use Rattle.law.specs.declared.calls.Entry.{Entry}
-use Rattle.law.specs.Calls.{Asked, asked, Line, line, lines, asks, log, ran, performed, next}
+use Rattle.law.specs.Calls.{Asked, asked, line, lines, asks, log, ran, performed, next}
 use Rattle.law.proofs.Holds.{Sound, AllSound}
 use Rattle.law.proofs.Did.{log_push, ran_push}
 

@@ -1,7 +1,7 @@
 -- A whole run, and two. Assumes nothing.
-use Rattle.std.proofs.Common.{◌≡◌, ℕ, List, sym, refl, ap, ◌∙◌, subst}
+use Rattle.std.proofs.Common.{◌≡◌, List, sym, refl, ap, ◌∙◌, subst}
 use Rattle.bench.specs.Model.{Model, Memory}
-use Rattle.unit.specs.View.{View, shape, made}
+use Rattle.unit.specs.View.{View, made}
 use Rattle.law.specs.Calls.{Asked, Line, log, ran}
 use Rattle.law.specs.Book.{blank}
 use Rattle.law.specs.Law.{Charged, Agree, Each, Lawful, Isolated}

@@ -7,7 +7,6 @@
 use Rattle.std.specs.Prelude.{ℕ, Bool, true, false, List, [], ◌∷◌, map, length, Some, None, Ok, Err, vec_items, Option, Result, slice_index_or}
 use Rattle.standard.specs.Kinds.{key_bytes}
 use Rattle.bench.specs.declared.faults.Fault.{Fault}
-use Rattle.lane.specs.Spans.{shown_at}
 use Rattle.lanetable.specs.declared.records.LaneRecord.{LaneRecord}
 use Rattle.unit.specs.declared.unit.Counts.{Counts as Three}
 use Rattle.lanetable.specs.Records.{empty, lowest_unready}

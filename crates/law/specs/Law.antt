@@ -5,7 +5,7 @@
 --   Alike       two calls that differ at most in bytes, not their number, that a placing brings to another lane
 --   Agree       two lines that differ at most in the bytes that a reading gave from another lane
 --   Lawful      the law of one run; Isolated, the law of two
-use Rattle.std.specs.Prelude.{◌≡◌, ℕ, ◌+◌, ◌*◌, Bool, true, false, cond, ◌&&◌, ◌⊎◌, List, [], ◌∷◌, ◌++◌, length, Some, None, Option, ◌≢◌}
+use Rattle.std.specs.Prelude.{◌≡◌, ℕ, ◌+◌, ◌*◌, Bool, true, false, cond, ◌&&◌, ◌⊎◌, List, [], ◌∷◌, ◌++◌, length, Some, ◌≢◌}
 use Rattle.law.specs.declared.calls.Answer.{Answer}
 use Rattle.unit.specs.Works.{K, S, O}
 use Rattle.law.specs.Calls.{Asked, place_key, place_block, clear, schedule, seal, unseal, read, counts, left, record_of, unready, Line, accepted}

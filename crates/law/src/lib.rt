@@ -2,5 +2,7 @@
 //
 //   calls   calls and questions in a list, each with its answer
 //   run     a list performed on a unit, and the law
+#![tactic(auto)]
+
 pub mod calls;
 pub mod run;

@@ -1,5 +1,5 @@
 -- No play of a plan that fits is refused, where enough gates are left. Assumes nothing.
-use Rattle.std.proofs.Common.{◌≡◌, ℕ, ◌+◌, ◌-◌, ◌<◌, ◌≤◌, Bool, true, false, cond, ◌&&◌, eqb, ltb, List, [], ◌∷◌, map, length, get_or, Some, None, Ok, Option, sym, refl, ap, ◌∙◌, subst, ap₂, arith}
+use Rattle.std.proofs.Common.{◌≡◌, ℕ, ◌+◌, ◌-◌, ◌<◌, ◌≤◌, true, cond, eqb, ltb, List, [], ◌∷◌, map, length, get_or, Some, None, Ok, Option, sym, refl, ap, ◌∙◌, arith}
 use Rattle.std.proofs.lemmas.Bool.{and_parts, and_from, le-ltb, ltb-false, eq-eqb, cond-true}
 use Rattle.bench.specs.Model.{Model, Memory, after}
 use Rattle.player.specs.Pages.{whole, ReadAs, gates_in, sockets_in, scratch_in, kinds_in, places_in, gates_of}

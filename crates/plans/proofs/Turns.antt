@@ -1,9 +1,9 @@
 -- One turn of the loop that plays a plan. Assumes nothing.
-use Rattle.std.proofs.Common.{◌≡◌, ℕ, ◌+◌, ◌<◌, ◌≤◌, List, [], ◌∷◌, length, get_or, drop, Ok, Err, Result, sym, refl, ap, ◌∙◌, ap₂}
+use Rattle.std.proofs.Common.{◌≡◌, ℕ, ◌+◌, ◌<◌, ◌≤◌, List, length, get_or, drop, Ok, Err, sym, ap, ◌∙◌, ap₂}
 use Rattle.std.proofs.lemmas.List.{drop_more, drop_all}
 use Rattle.bench.specs.declared.faults.Fault.{Fault}
 use Rattle.bench.specs.Model.{Model, after}
-use Rattle.player.specs.Plays.{play_answer, played, played_in}
+use Rattle.player.specs.Plays.{play_answer, played}
 use Rattle.plans.specs.declared.plays.Play.{Play}
 use Rattle.plans.specs.Plays.{page_of, bases_of, ask_play, do_play, and_then, plays_answer, carried}
 

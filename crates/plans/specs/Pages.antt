@@ -2,7 +2,7 @@
 --
 --   page q c gs   the bytes of a page of q sockets, c scratch numbers and the gates gs
 --   xor t a b     a gate: number t becomes a XOR b; in the same way and, or, xnor, nand
-use Rattle.std.specs.Prelude.{ℕ, ◌+◌, ◌*◌, ◌/◌, ◌%◌, cond, List, [], ◌∷◌, ◌++◌, map, length}
+use Rattle.std.specs.Prelude.{ℕ, ◌+◌, ◌/◌, ◌%◌, cond, List, [], ◌∷◌, ◌++◌, map, length}
 use Rattle.std.specs.List.{range_with_len}
 use Rattle.standard.specs.Bits.{bit}
 use Rattle.standard.specs.KeyExpansion.{Rcon}

@@ -1,4 +1,6 @@
 // Plays the script on standard input, and writes its answers on standard output.
+#![tactic(auto)]
+
 use playing::runs::play_script;
 use std::io;
 use std::io::{Read, Write};

@@ -1,18 +1,17 @@
 -- What an accepted play rests on, over plain values. Assumes nothing.
-use Rattle.std.proofs.Common.{◌≡◌, ℕ, ◌+◌, ◌-◌, ◌*◌, ◌/◌, ◌<◌, ◌≤◌, Bool, true, false, cond, ◌&&◌, eqb, ltb, leb, List, [], ◌∷◌, ◌++◌, map, length, get_or, take, drop, Some, None, Ok, Err, Option, Result, sym, refl, ap, ◌∙◌, subst, ap₂, arith}
-use native.Mathlib.Nat.{sub-zero}
-use Rattle.std.proofs.lemmas.Bool.{and_parts, leb-true, ltb-true, eqb-true, lt-ltb, le-ltb, cond-true, cond-false}
+use Rattle.std.proofs.Common.{◌≡◌, ℕ, ◌+◌, ◌-◌, ◌*◌, ◌/◌, ◌<◌, ◌≤◌, true, ltb, List, [], ◌∷◌, ◌++◌, map, length, drop, None, Ok, Err, Result, sym, refl, ap, ◌∙◌, subst, ap₂, arith}
+use Rattle.std.proofs.lemmas.Bool.{ltb-true, le-ltb, cond-true, cond-false}
 use Rattle.std.proofs.lemmas.List.{length-take-le, length-drop, length-map, map_push}
 use Rattle.std.proofs.lemmas.List.FromFn.{length-range_with_len, map-range_with_len_more}
 use Rattle.std.specs.List.{range_with_len}
 use Rattle.bench.specs.declared.faults.Fault.{Fault}
-use Rattle.bench.specs.Model.{Model, Memory, part, both, after, gated, gated_in, gate_answer}
+use Rattle.bench.specs.Model.{Model, Memory, part, both, after, gated, gated_in}
 use Rattle.bench.specs.declared.gates.Gate.{Gate}
-use Rattle.player.specs.Pages.{whole, ReadAs, every_below, pair, gates_in, sockets_in, scratch_in, kinds_in, places_in, sizes_fit, kinds_named, numbers_below, gate_at, gates_of}
-use Rattle.player.specs.Plays.{register_of, placed, bases_at, ask_bases, ask_gates, play_answer, ran, played, ran_in, played_in}
+use Rattle.player.specs.Pages.{whole, ReadAs, pair, gates_in, sockets_in, scratch_in, numbers_below, gate_at, gates_of}
+use Rattle.player.specs.Plays.{placed, bases_at, ask_bases, ask_gates, play_answer, ran, played, ran_in, played_in}
 use Rattle.player.proofs.Below.{every_at}
-use Rattle.player.proofs.Wholes.{page_length, page_numbers, gates_few, sockets_few}
-use Rattle.player.proofs.Places.{register_below, bases_count}
+use Rattle.player.proofs.Wholes.{page_length, page_numbers, sockets_few}
+use Rattle.player.proofs.Places.{register_below}
 
 abbrev pub done : Gate → Model → Model
 done g m = gated g.kind g.target g.first g.second m

@@ -1,5 +1,5 @@
 -- One lane's registers as a list: the same gates, in a form that computes with sharing. Assumes nothing.
-use Rattle.std.specs.Prelude.{ℕ, Bool, false, List, [], ◌∷◌, slice_index_or, slice_set}
+use Rattle.std.specs.Prelude.{Bool, false, List, [], ◌∷◌, slice_index_or, slice_set}
 use Rattle.bench.specs.Kinds.{gate_result}
 use Rattle.bench.specs.declared.gates.Gate.{Gate}
 

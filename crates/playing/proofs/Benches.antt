@@ -1,10 +1,10 @@
 -- A bench line, as its words are read. Assumes nothing.
-use Rattle.std.proofs.Common.{◌≡◌, ℕ, ◌<◌, true, false, cond, eqb, List, [], ◌∷◌, length, get_or, drop, Some, None, codes, Option, sym, refl, ap, ◌∙◌, ap₂, arith}
+use Rattle.std.proofs.Common.{◌≡◌, ℕ, ◌<◌, true, false, List, [], length, get_or, drop, Some, None, codes, Option, sym, ap, ◌∙◌, ap₂, arith}
 use Rattle.std.specs.Str.{bytes_eq}
 use Rattle.std.proofs.lemmas.Bool.{ne_eqb, eq-eqb, cond-true, cond-false}
 use Rattle.text.specs.Text.{number_in}
 use Rattle.playing.specs.declared.setups.Single.{Single}
-use Rattle.playing.specs.Setups.{word_bench, row_bench, single_in, words_of, past_bench, single, pair, second_in, joined_in}
+use Rattle.playing.specs.Setups.{word_bench, row_bench, single_in, words_of, past_bench, pair, second_in, joined_in}
 
 module _ (ws : List (List ℕ)) where
   pub word_is : (n a : Option ℕ) → bytes_eq (get_or ws 0 []) (codes "word") ≡ true → number_in (get_or ws 1 []) ≡ n → number_in (get_or ws 2 []) ≡ a → single_in ws ≡ word_bench n a

@@ -1,5 +1,5 @@
 -- Pushes one after another. Assumes nothing.
-use Rattle.std.proofs.Common.{◌≡◌, ℕ, List, [], ◌∷◌, ◌++◌, IfOk, Result, sym, ap, ◌∙◌, append_assoc}
+use Rattle.std.proofs.Common.{◌≡◌, ℕ, List, [], ◌∷◌, ◌++◌, IfOk, Result, ap, ◌∙◌, append_assoc}
 use Rattle.std.proofs.lemmas.Result.{IfOk-weaker}
 
 pub then_pushed : (start had all x y : List ℕ) → had ≡ start ++ x → all ≡ had ++ y → all ≡ start ++ (x ++ y)

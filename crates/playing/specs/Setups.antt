@@ -14,7 +14,7 @@
 --   opens_one s           the meaning of one bench at first
 --   beside m o           a bench of the meaning m with a second one beside it, if any
 --   opens s              the meaning at first of the bench that is written
-use Rattle.std.specs.Prelude.{ℕ, min, Bool, cond, List, [], ◌∷◌, length, drop, replicate, Some, None, codes, Option, ◌==◌, slice_index_or}
+use Rattle.std.specs.Prelude.{ℕ, min, cond, List, [], length, drop, replicate, Some, None, codes, Option, ◌==◌, slice_index_or}
 use Rattle.std.specs.Str.{bytes_eq}
 use Rattle.bench.specs.Model.{Model}
 use Rattle.bench.specs.Word.{word_model}

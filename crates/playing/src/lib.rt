@@ -1,4 +1,6 @@
 // Scripts of calls on a bench: what a line says, what it does, and what is answered.
+#![tactic(auto)]
+
 pub mod answers;
 pub mod benchlines;
 pub mod commands;

@@ -1,4 +1,6 @@
 // Seals the blocks on standard input under the key before them, and writes them on standard output.
+#![tactic(auto)]
+
 use sealing::texts::{TEXT, seal_text};
 use std::io;
 use std::io::{Read, Write};

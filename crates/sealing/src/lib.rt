@@ -3,6 +3,8 @@
 //   digits   a line of text for sixteen bytes
 //   lanes    the key and the blocks in the lanes of a unit, and the lines read back from them
 //   texts    the whole text of an input
+#![tactic(auto)]
+
 pub mod digits;
 pub mod lanes;
 pub mod texts;

@@ -1,10 +1,10 @@
 -- The byte that eight bits make. Assumes nothing.
-use Rattle.std.proofs.Common.{◌≡◌, ℕ, zero, suc, ◌+◌, ◌-◌, ◌*◌, ◌/◌, ◌%◌, ◌^◌, ◌<◌, ◌≤◌, Bool, true, false, cond, eqb, List, [], ◌∷◌, ◌++◌, map, length, get_or, sym, refl, ap, ◌∙◌, subst, ap₂, arith}
+use Rattle.std.proofs.Common.{◌≡◌, ℕ, zero, suc, ◌+◌, ◌<◌, ◌≤◌, Bool, true, false, cond, eqb, List, ◌∷◌, map, get_or, refl, ap, ◌∙◌, ap₂, arith}
 use lib.Lanes.{mask_l}
 use Rattle.std.specs.List.{range_with_len}
 use Rattle.std.proofs.lemmas.Simd.{bit_mask_l, mask_l-lt}
 use Rattle.std.proofs.lemmas.List.FromFn.{get_or-map-range_with_len}
-use Rattle.standard.specs.Bits.{bit, odd, byte_of}
+use Rattle.standard.specs.Bits.{bit, byte_of}
 use Rattle.standard.proofs.Tests.{tests, equal_below}
 
 pub byte_of_small : (σ : ℕ → Bool) (base : ℕ) → byte_of σ base < 256

@@ -1,10 +1,10 @@
 -- Decimal digits: one digit more, and reading them back. Assumes nothing.
-use Rattle.std.proofs.Common.{◌≡◌, ℕ, suc, ◌+◌, ◌/◌, ◌%◌, ◌^◌, ◌<◌, ◌≤◌, true, cond, ltb, List, [], ◌∷◌, ◌++◌, length, Some, None, sym, refl, ap, ◌∙◌, arith, rules}
+use Rattle.std.proofs.Common.{◌≡◌, ℕ, suc, ◌+◌, ◌/◌, ◌%◌, ◌^◌, ◌<◌, ◌≤◌, true, ltb, [], ◌∷◌, ◌++◌, length, Some, sym, ap, ◌∙◌, arith, rules}
 use Rattle.std.specs.Fmt as written
 use Rattle.std.proofs.lemmas.Str.Parse.{IsNumeralModel, numerals_by_fold}
 use Rattle.std.proofs.lemmas.Fmt.{AppendsLastDigit, decimal_from_appends, length-decimal-le_succ, decimal_digit, decimal_step, digits_decimal, digits_value-decimal, decimal_nonempty}
-use Rattle.std.proofs.lemmas.Bool.{and_from, lt-ltb, cond-true}
-use Rattle.text.specs.Text.{is_digit, all_digits, value_after, number_in, decimal_by, decimal}
+use Rattle.std.proofs.lemmas.Bool.{lt-ltb}
+use Rattle.text.specs.Text.{all_digits, value_after, number_in, decimal_by, decimal}
 
 spells : AppendsLastDigit decimal_by
 spells = search rules

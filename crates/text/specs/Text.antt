@@ -24,7 +24,7 @@
 --   hex_digit d          the lower-case hexadecimal digit of a value below 16
 --   hex_pairs bytes      two such digits for each byte
 --   hex_text bytes       the same, and `-` for no bytes
-use Rattle.std.specs.Prelude.{ℕ, zero, suc, ◌+◌, ◌-◌, ◌*◌, ◌/◌, ◌%◌, ◌^◌, Bool, true, false, cond, not, ◌&&◌, List, [], ◌∷◌, ◌++◌, length, take, drop, Some, None, Option, ◌==◌, nat_eq, nat_le, nat_lt}
+use Rattle.std.specs.Prelude.{ℕ, zero, suc, ◌+◌, ◌-◌, ◌*◌, ◌/◌, ◌%◌, ◌^◌, Bool, true, cond, not, ◌&&◌, List, [], ◌∷◌, ◌++◌, length, take, drop, Some, None, Option, ◌==◌, nat_eq, nat_le, nat_lt}
 use Rattle.std.specs.List.{prefix_len}
 
 -- how many bytes stand before the first byte stop

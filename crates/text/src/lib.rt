@@ -1,3 +1,5 @@
 // The text of scripts, on bytes: lines, words, numbers and bytes in hexadecimal digits.
+#![tactic(auto)]
+
 pub mod reads;
 pub mod writes;

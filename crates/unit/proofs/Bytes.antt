@@ -1,14 +1,12 @@
 -- The bytes of a lane: as they are read and placed, and as the standard's state and round keys. Assumes nothing.
-use Rattle.std.proofs.Common.{◌≡◌, ℕ, zero, suc, ◌+◌, ◌-◌, ◌*◌, ◌/◌, ◌%◌, ◌<◌, ◌≤◌, Bool, true, cond, ltb, List, [], ◌∷◌, ◌++◌, map, length, get_or, sym, refl, ap, ◌∙◌, ap₂, zero-add, arith}
-use Rattle.std.specs.List.{range_with_len}
+use Rattle.std.proofs.Common.{◌≡◌, ℕ, ◌+◌, ◌-◌, ◌*◌, ◌<◌, ◌≤◌, cond, ltb, sym, ap, ◌∙◌, zero-add, arith}
 use Rattle.std.proofs.lemmas.Bool.{lt-ltb, cond-true}
-use Rattle.std.proofs.lemmas.List.FromFn.{get_or-map-range_with_len}
 use Rattle.standard.specs.Kinds.{rounds}
 use Rattle.bench.specs.Model.{Model}
 use Rattle.lane.specs.Spans.{shown_at}
 use Rattle.standard.specs.Bits.{byte_of}
 use Rattle.standard.proofs.ByteLaws.{map_below, byte_of_same}
-use Rattle.plans.specs.Layout.{at, key, free}
+use Rattle.plans.specs.Layout.{at, key}
 use Rattle.circuit.specs.Lanes.{lane_of}
 use Rattle.circuit.specs.Claims.{key_value, key_in}
 use Rattle.unit.specs.Works.{kind}

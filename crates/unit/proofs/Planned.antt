@@ -1,8 +1,8 @@
 -- What the three plans do to the bytes of every lane. Assumes nothing.
-use Rattle.std.proofs.Common.{◌≡◌, ℕ, ◌+◌, ◌*◌, ◌<◌, ◌≤◌, Bool, true, cond, eqb, ltb, List, [], ◌∷◌, map, Some, None, Ok, Option, sym, refl, ap, ◌∙◌, subst, arith}
+use Rattle.std.proofs.Common.{◌≡◌, ℕ, ◌+◌, ◌<◌, ◌≤◌, true, List, [], ◌∷◌, map, Some, None, Ok, Option, sym, refl, ap, ◌∙◌, subst, arith}
 use Rattle.std.proofs.lemmas.Bool.{le-ltb, cond_both}
 use Rattle.standard.specs.Cipher.{Cipher, InvCipher}
-use Rattle.standard.specs.Kinds.{rounds, round_key, sixteen}
+use Rattle.standard.specs.Kinds.{rounds}
 use Rattle.standard.specs.States.{State, RoundKeys}
 use Rattle.standard.proofs.StateLaws.{sixteen_state}
 use Rattle.standard.proofs.Rounds.{inv_cipher_cipher, cipher_inv_cipher}
@@ -15,9 +15,9 @@ use Rattle.bench.specs.Gates.{ran}
 use Rattle.player.specs.Pages.{sockets_in, gates_of}
 use Rattle.player.specs.Plays.{played, placed}
 use Rattle.plans.specs.declared.plays.Play.{Play}
-use Rattle.plans.specs.Layout.{at, key, room}
+use Rattle.plans.specs.Layout.{at, key}
 use Rattle.plans.specs.Pages.{own_inverter}
-use Rattle.plans.specs.Plays.{page_of, bases_of, do_play, planned, plan_gates}
+use Rattle.plans.specs.Plays.{page_of, bases_of, do_play, planned}
 use Rattle.plans.specs.Plans.{schedule_plan, seal_plan, open_plan}
 use Rattle.plans.proofs.Accepted.{registers_after, plan_falls}
 use Rattle.plans.proofs.Counts.{own_whole}
@@ -30,7 +30,7 @@ use Rattle.cipher.specs.Claims.{plan_answer}
 use Rattle.cipher.proofs.Stood.{schedules, seals, opens, stages_stand}
 use Rattle.unit.specs.View.{Shape}
 use Rattle.unit.specs.Works.{kind, worked, gates_of_plan}
-use Rattle.unit.specs.Lanes.{state_of, key_of, round_shown, KeysStay, Expanded, Enciphered, Deciphered, Staged, EveryLane}
+use Rattle.unit.specs.Lanes.{state_of, round_shown, KeysStay, Expanded, Enciphered, Deciphered, Staged, EveryLane}
 use Rattle.unit.specs.Answers.{fits}
 use Rattle.unit.proofs.Bytes.{same_state, same_rounds, same_key}
 use Rattle.standard.proofs.Loops.{same_cipher, same_inv_cipher}

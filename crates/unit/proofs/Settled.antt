@@ -1,12 +1,12 @@
 -- What a call leaves where it is refused and where it is accepted, and what the questions tell. Assumes nothing.
-use Rattle.std.proofs.Common.{◌≡◌, ℕ, ◌+◌, ◌*◌, ◌<◌, ◌≤◌, Bool, true, false, cond, ◌&&◌, eqb, ltb, leb, get_or, Some, None, Ok, Err, Option, Result, sym, refl, ap, ◌∙◌, subst, arith}
+use Rattle.std.proofs.Common.{◌≡◌, ℕ, ◌+◌, ◌<◌, ◌≤◌, Bool, true, false, ◌&&◌, eqb, ltb, leb, get_or, Some, None, Ok, Err, Option, refl, arith}
 use Rattle.std.proofs.lemmas.Bool.{leb-true, ltb-true, eqb-true, and_parts, le-leb, lt-ltb}
 use Rattle.bench.specs.declared.faults.Fault.{Fault}
 use Rattle.bench.specs.Model.{Model}
 use Rattle.lane.specs.Spans.{span_answer}
 use Rattle.lanetable.specs.Records.{empty, any_placed, any_block, lowest_unready}
 use Rattle.unit.specs.View.{Shape}
-use Rattle.unit.specs.Works.{kind, K}
+use Rattle.unit.specs.Works.{K}
 use Rattle.unit.specs.Answers.{ask, fits, enough, every_key, naming, placing, reading, scheduling, working, given, settled}
 
 -- ---- the two ends of a call

@@ -5,7 +5,7 @@
 --   reading     1, 5, 6, 7
 --   scheduling  1, 8, 10
 --   working     1, 8, 9, 10   sealing and opening, for a plan of so many gates
-use Rattle.std.specs.Prelude.{ℕ, ◌+◌, ◌-◌, Bool, cond, ◌&&◌, Some, None, Ok, Err, Option, Result, ◌==◌, nat_le, nat_lt, slice_index_or}
+use Rattle.std.specs.Prelude.{ℕ, ◌-◌, Bool, cond, ◌&&◌, Some, None, Ok, Err, Option, Result, ◌==◌, nat_le, nat_lt, slice_index_or}
 use Rattle.bench.specs.declared.faults.Question.{Question}
 use Rattle.bench.specs.declared.faults.Question.TheVariants.{Size, Lane, Sixteen, Block, Work, Scheduled, Gates}
 use Rattle.bench.specs.declared.faults.Part.TheVariants.{Unit as UnitPart}

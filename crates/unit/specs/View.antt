@@ -3,7 +3,7 @@
 --   View        the bench's meaning, the bottom benches beneath it, and the lanes' records
 --   Shape       all that any answer but the bytes of a reading hangs on
 --   made        a unit as it is made: all records empty
-use Rattle.std.specs.Prelude.{ℕ, ◌+◌, ◌*◌, List, map, length, replicate, slice_index_or, slice_set}
+use Rattle.std.specs.Prelude.{ℕ, ◌*◌, List, map, length, replicate, slice_index_or, slice_set}
 use Rattle.bench.specs.Model.{Model, Memory}
 use Rattle.lane.specs.Spans.{laid, laid_in, bits_of, zeroed, zeroed_in}
 use Rattle.plans.specs.declared.plays.Play.{Play}

@@ -1,4 +1,4 @@
-use Rattle.std.proofs.Common.{◌≡◌, ℕ, ◌+◌, ◌-◌, ◌*◌, ◌<◌, ◌≤◌, Bool, ap, ◌∙◌, ap₂, arith, rules}
+use Rattle.std.proofs.Common.{◌≡◌, ℕ, ◌+◌, ◌*◌, Bool, ap, ◌∙◌, ap₂, arith}
 use mir.Val.{bool_byte}
 use Rattle.standard.specs.Bits.{byte_of}
 use Rattle.lane.proofs.Bytes.{upper, upper_lt, byte_small, upper_more}

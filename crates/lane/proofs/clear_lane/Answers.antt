@@ -1,4 +1,4 @@
-use Rattle.std.proofs.Common.{◌≡◌, ℕ, ◌+◌, ◌<◌, false, Ok, refl, ◌∙◌, ap₂, arith, rules}
+use Rattle.std.proofs.Common.{◌≡◌, ◌+◌, false, Ok, refl, ◌∙◌, ap₂, arith}
 use Rattle.bench.specs.Model.{told, written, written_in, set_answer}
 use Rattle.bench.proofs.Accepts.{set_accepted}
 use Rattle.lane.proofs.Laying.{never, laid_none, laid_more, laid_in_more, laid_registers, laid_lanes}

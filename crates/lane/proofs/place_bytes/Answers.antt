@@ -1,4 +1,4 @@
-use Rattle.std.proofs.Common.{◌≡◌, ℕ, ◌+◌, ◌<◌, Ok, sym, refl, ap, ◌∙◌, ap₂, arith, rules}
+use Rattle.std.proofs.Common.{◌≡◌, ◌+◌, Ok, refl, ◌∙◌, ap₂, arith}
 use Rattle.bench.specs.Model.{told, written, written_in, set_answer}
 use Rattle.bench.proofs.Accepts.{set_accepted}
 use Rattle.lane.specs.Spans.{bits_of}

@@ -1,5 +1,4 @@
-use Rattle.std.proofs.Common.{◌≡◌, List, [], ◌∷◌, ◌++◌, vec_items, ap, ◌∙◌}
-use Rattle.plans.specs.Plays.{page_of}
+use Rattle.std.proofs.Common.{[], ◌∷◌, ◌++◌, vec_items, ap, ◌∙◌}
 use Rattle.archiving.specs.Listings.{gates_text}
 use Rattle.archiving.specs.Parts.{page_part}
 use Rattle.archiving.proofs.Held.{extends_part, extends_from}

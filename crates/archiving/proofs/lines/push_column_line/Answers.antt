@@ -1,4 +1,4 @@
-use Rattle.std.proofs.Common.{◌≡◌, [], ◌∷◌, ◌++◌, vec_items, ap, ◌∙◌}
+use Rattle.std.proofs.Common.{[], ◌∷◌, ◌++◌, vec_items}
 use Rattle.archiving.specs.Lines.{gate_text, low_text, column_line}
 use Rattle.archiving.proofs.Written.{pushed, last_pushed}
 use Rattle.archiving.proofs.lines.push_column_line.Goals as goal

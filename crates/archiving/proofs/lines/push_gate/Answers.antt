@@ -1,4 +1,4 @@
-use Rattle.std.proofs.Common.{◌≡◌, [], ◌∷◌, ◌++◌, vec_items, codes, ap, ◌∙◌}
+use Rattle.std.proofs.Common.{◌++◌, vec_items, codes, ap, ◌∙◌}
 use Rattle.archiving.specs.Lines.{padded, kind_text, gate_text}
 use Rattle.archiving.proofs.Written.{pushed, last_pushed}
 use Rattle.archiving.proofs.lines.push_gate.Goals as goal

@@ -1,4 +1,4 @@
-use Rattle.std.proofs.Common.{◌≡◌, [], ◌∷◌, ◌++◌, vec_items, ap, ◌∙◌}
+use Rattle.std.proofs.Common.{[], ◌∷◌, ◌++◌, vec_items, ap, ◌∙◌}
 use lib.Bits.{bit_xor}
 use Rattle.archiving.specs.Lines.{gate_text, low_text, mark_text, mask_line}
 use Rattle.archiving.proofs.Written.{pushed, last_pushed}

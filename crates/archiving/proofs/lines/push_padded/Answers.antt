@@ -1,4 +1,4 @@
-use Rattle.std.proofs.Common.{◌≡◌, [], ◌∷◌, ◌++◌, vec_items, ap, ◌∙◌}
+use Rattle.std.proofs.Common.{◌++◌, vec_items, ap, ◌∙◌}
 use Rattle.text.specs.Text.{decimal}
 use Rattle.archiving.specs.Lines.{spaces, padded}
 use Rattle.archiving.proofs.Written.{last_pushed}

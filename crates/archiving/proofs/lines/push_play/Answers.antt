@@ -1,4 +1,4 @@
-use Rattle.std.proofs.Common.{◌≡◌, [], ◌∷◌, ◌++◌, vec_items, codes, ap, ◌∙◌}
+use Rattle.std.proofs.Common.{[], ◌∷◌, ◌++◌, vec_items, codes, ap, ◌∙◌}
 use Rattle.plans.specs.Plays.{bases_of}
 use Rattle.archiving.specs.Lines.{padded, name_text, bases_text, play_line}
 use Rattle.archiving.proofs.Written.{pushed, last_pushed}

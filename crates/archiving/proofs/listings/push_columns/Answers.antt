@@ -1,4 +1,4 @@
-use Rattle.std.proofs.Common.{◌≡◌, vec_items, codes, ◌∙◌, ap₂}
+use Rattle.std.proofs.Common.{vec_items, codes, ◌∙◌, ap₂}
 use Rattle.archiving.specs.Traces.{input_words}
 use Rattle.archiving.specs.Listings.{column_lines}
 use Rattle.archiving.proofs.Written.{last_pushed, pushed_as}

@@ -1,4 +1,4 @@
-use Rattle.std.proofs.Common.{◌≡◌, map, length, vec_items, ap, ◌∙◌}
+use Rattle.std.proofs.Common.{map, length, vec_items, ap, ◌∙◌}
 use Rattle.std.specs.List.{range_with_len}
 use Rattle.player.specs.Pages.{gate_at}
 use Rattle.archiving.specs.Listings.{sizes_text, checks_text}

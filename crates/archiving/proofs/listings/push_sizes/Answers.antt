@@ -1,4 +1,4 @@
-use Rattle.std.proofs.Common.{◌≡◌, [], ◌∷◌, ◌++◌, vec_items, codes, ap, ◌∙◌}
+use Rattle.std.proofs.Common.{[], ◌∷◌, ◌++◌, vec_items, codes}
 use Rattle.text.specs.Text.{decimal}
 use Rattle.archiving.proofs.Written.{pushed, last_pushed}
 use Rattle.archiving.proofs.listings.push_sizes.Goals as goal

@@ -1,4 +1,4 @@
-use Rattle.std.proofs.Common.{◌≤◌, length, vec_items, arith, rules}
+use Rattle.std.proofs.Common.{◌≤◌, length, vec_items, rules}
 use Rattle.archiving.proofs.Reaching.{reached_none, reached_then, reached_step}
 use Rattle.archiving.proofs.planlists.push_steps.Goals as goal
 

@@ -1,4 +1,4 @@
-use Rattle.std.proofs.Common.{◌≡◌, ◌+◌, ◌*◌, ◌/◌, ◌<◌, length, sym, ap, ◌∙◌, add-one, arith, rules}
+use Rattle.std.proofs.Common.{◌*◌, ◌/◌, sym, ap, ◌∙◌, add-one, arith}
 use lib.Arith.{digits_lt}
 use Rattle.bench.specs.Row.{rows_done, row_step}
 use Rattle.bench.proofs.row.gate_rows.Goals as goal

@@ -1,4 +1,4 @@
-use Rattle.std.proofs.Common.{◌/◌, ◌^◌, eqb, ap, rules}
+use Rattle.std.proofs.Common.{◌/◌, ◌^◌, eqb, ap}
 use Rattle.bench.proofs.row.test_byte.Goals as goal
 use Rattle.bench.specs.Word.{test_bit}
 use lib.Bits.{and_mask}

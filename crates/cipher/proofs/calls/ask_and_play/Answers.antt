@@ -1,4 +1,4 @@
-use Rattle.std.proofs.Common.{◌≡◌, ℕ, ◌+◌, ◌-◌, ◌<◌, ◌≤◌, true, Ok, sym, refl, ap, ◌∙◌, subst, ap₂, arith}
+use Rattle.std.proofs.Common.{◌≡◌, ◌+◌, ◌≤◌, true, Ok, sym, refl, ap, ◌∙◌, subst, arith}
 use Rattle.standard.specs.Kinds.{aes128}
 use Rattle.bench.specs.Model.{Model, told, after}
 use Rattle.plans.specs.Pages.{own_inverter}

@@ -1,6 +1,6 @@
-use Rattle.std.proofs.Common.{◌≡◌, sym, refl, ap, ◌∙◌, subst, ap₂}
+use Rattle.std.proofs.Common.{◌≡◌, sym, ap, ◌∙◌, subst}
 use Rattle.standard.specs.Kinds.{aes128}
-use Rattle.bench.specs.Model.{Model, told, after}
+use Rattle.bench.specs.Model.{told, after}
 use Rattle.plans.specs.Layout.{room}
 use Rattle.plans.specs.Pages.{own_inverter}
 use Rattle.plans.specs.Plays.{plan_gates, planned, planned_in, fit}

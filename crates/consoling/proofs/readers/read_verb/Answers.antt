@@ -1,4 +1,4 @@
-use Rattle.std.proofs.Common.{◌≡◌, true, false, cond, codes, sym, ◌∙◌}
+use Rattle.std.proofs.Common.{◌≡◌, true, false, codes, sym, ◌∙◌}
 use Rattle.std.specs.Str.{bytes_eq}
 use Rattle.std.proofs.lemmas.Bool.{cond-true, cond-false}
 use Rattle.consoling.specs.Lines.{verb_in}

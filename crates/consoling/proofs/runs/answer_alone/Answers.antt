@@ -1,4 +1,4 @@
-use Rattle.std.proofs.Common.{◌≡◌, ℕ, List, ◌++◌, IfOk, vec_items, sym, ap, ◌∙◌, subst, ap₂}
+use Rattle.std.proofs.Common.{◌≡◌, ℕ, List, ◌++◌, IfOk, vec_items, ap, ◌∙◌, subst, ap₂}
 use Rattle.std.proofs.lemmas.List.{with_items_is}
 use Rattle.law.specs.declared.calls.Entry.{Entry}
 use Rattle.law.specs.Calls.{asks, lines, log}

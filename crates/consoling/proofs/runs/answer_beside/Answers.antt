@@ -1,4 +1,4 @@
-use Rattle.std.proofs.Common.{◌≡◌, ℕ, ◌+◌, List, ◌++◌, IfOk, vec_items, sym, ap, ◌∙◌, subst}
+use Rattle.std.proofs.Common.{◌≡◌, ℕ, ◌+◌, List, ◌++◌, IfOk, vec_items, sym, ◌∙◌, subst}
 use Rattle.text.specs.Text.{lines_in}
 use Rattle.playing.specs.declared.answers.Answer.TheVariants.{Unreadable}
 use Rattle.playing.specs.Answers.{answer_line}

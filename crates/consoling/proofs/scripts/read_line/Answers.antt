@@ -1,4 +1,4 @@
-use Rattle.std.proofs.Common.{◌≡◌, false, List, [], ◌∷◌, ◌++◌, Some, vec_items, sym, ap, ◌∙◌}
+use Rattle.std.proofs.Common.{◌≡◌, false, List, ◌++◌, Some, vec_items, sym, ap, ◌∙◌}
 use mathlib.Core.List.{map-append}
 use Rattle.std.specs.Option.{option_map}
 use Rattle.playing.specs.Commands.{silent}

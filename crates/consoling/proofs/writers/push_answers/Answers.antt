@@ -1,4 +1,4 @@
-use Rattle.std.proofs.Common.{◌≡◌, ℕ, ◌+◌, List, [], ◌∷◌, ◌++◌, length, get_or, drop, vec_items, sym, ap, ◌∙◌, append-nil}
+use Rattle.std.proofs.Common.{◌+◌, List, ◌++◌, drop, vec_items, sym, ap, ◌∙◌, append-nil}
 use Rattle.std.proofs.lemmas.List.{drop_more, drop_all}
 use Rattle.law.specs.Calls.{lines}
 use Rattle.consoling.specs.declared.turns.Turn.{Turn}

@@ -1,4 +1,4 @@
-use Rattle.std.proofs.Common.{ℕ, List, [], ◌∷◌, ◌++◌, vec_items, codes}
+use Rattle.std.proofs.Common.{[], ◌∷◌, ◌++◌, vec_items, codes}
 use Rattle.text.specs.Text.{hex_text}
 use Rattle.playing.proofs.Written.{last_pushed}
 use Rattle.consoling.proofs.writers.push_reading.Goals as goal

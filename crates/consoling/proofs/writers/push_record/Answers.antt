@@ -1,4 +1,4 @@
-use Rattle.std.proofs.Common.{ℕ, List, [], ◌∷◌, ◌++◌, vec_items, codes}
+use Rattle.std.proofs.Common.{[], ◌∷◌, ◌++◌, vec_items, codes}
 use Rattle.playing.proofs.Written.{last_pushed}
 use Rattle.consoling.specs.Answers.{key_name, block_name}
 use Rattle.consoling.proofs.writers.push_record.Goals as goal

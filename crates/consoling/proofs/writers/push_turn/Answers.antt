@@ -1,4 +1,4 @@
-use Rattle.std.proofs.Common.{◌≡◌, ℕ, ◌+◌, ◌<◌, length, vec_items, sym, refl, subst, arith}
+use Rattle.std.proofs.Common.{◌+◌, ◌<◌, length, vec_items, sym, refl, subst, arith}
 use Rattle.consoling.specs.declared.turns.Turn.{Turn}
 use Rattle.consoling.specs.Runs.{Turned}
 use Rattle.consoling.proofs.Turning.{not_read, no_entry, entry_written}

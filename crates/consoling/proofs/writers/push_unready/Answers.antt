@@ -1,4 +1,4 @@
-use Rattle.std.proofs.Common.{◌≡◌, ℕ, List, [], ◌∷◌, ◌++◌, IfOk, vec_items, codes, Option, sym, subst}
+use Rattle.std.proofs.Common.{◌≡◌, ℕ, [], ◌∷◌, ◌++◌, IfOk, vec_items, codes, Option, sym, subst}
 use Rattle.text.specs.Text.{decimal}
 use Rattle.playing.proofs.Written.{last_pushed}
 use Rattle.consoling.specs.Answers.{unready_text}

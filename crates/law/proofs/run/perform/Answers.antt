@@ -1,6 +1,5 @@
 use Rattle.std.proofs.Common.{sym, refl, ap, ◌∙◌}
 use Rattle.std.proofs.lemmas.List.{with_items_is}
-use Rattle.unit.specs.declared.unit.Counts.{Counts as Three}
 use Rattle.unit.proofs.Settled.{settled_same}
 use Rattle.law.specs.declared.calls.Answer.TheVariants.{Counts, Left, Unready}
 use Rattle.law.specs.Calls.{asked, place_key, place_block, clear, schedule, seal, unseal, read, counts, left, record_of, unready, done_answer, record_answer}

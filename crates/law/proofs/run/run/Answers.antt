@@ -1,5 +1,5 @@
-use Rattle.std.proofs.Common.{◌≡◌, refl, ap, ◌∙◌}
-use Rattle.unit.specs.View.{View, made}
+use Rattle.std.proofs.Common.{◌≡◌, ap, ◌∙◌}
+use Rattle.unit.specs.View.{made}
 use Rattle.unit.specs.Held.{view, meaning}
 use Rattle.law.specs.Calls.{asks, lines, log, ran}
 use Rattle.law.proofs.Loop.{turn, finished}

@@ -1,7 +1,7 @@
-use Rattle.std.proofs.Common.{◌≡◌, ℕ, ◌+◌, ◌-◌, ◌<◌, ◌≤◌, length, None, Ok, sym, refl, ap, ◌∙◌, subst, ap₂, arith, rules}
-use Rattle.bench.specs.Model.{Model, told, gated, gate_answer}
+use Rattle.std.proofs.Common.{◌≡◌, ℕ, ◌-◌, ◌≤◌, None, Ok, sym, refl, ap, ◌∙◌, ap₂, arith}
+use Rattle.bench.specs.Model.{Model, told, gate_answer}
 use Rattle.bench.specs.declared.gates.Gate.{Gate}
-use Rattle.player.specs.Pages.{whole, ReadAs, gate_at}
+use Rattle.player.specs.Pages.{gate_at}
 use Rattle.player.specs.Plays.{placed, bases_at, ran, ran_in, register_of}
 use Rattle.bench.proofs.Accepts.{gate_accepted}
 use Rattle.player.proofs.Places.{bases_count}

@@ -1,4 +1,4 @@
-use Rattle.std.proofs.Common.{◌≡◌, ◌≤◌, map}
+use Rattle.std.proofs.Common.{◌≡◌, map}
 use Rattle.bench.specs.Model.{told}
 use Rattle.std.specs.List.{range_with_len}
 use Rattle.player.specs.Pages.{gate_at}

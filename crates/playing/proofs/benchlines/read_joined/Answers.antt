@@ -1,4 +1,4 @@
-use Rattle.std.proofs.Common.{◌≡◌, ℕ, true, false, List, [], drop, Some, None, codes, sym, refl, ap, ◌∙◌}
+use Rattle.std.proofs.Common.{◌≡◌, true, false, drop, Some, None, codes, sym, ap, ◌∙◌}
 use Rattle.text.specs.Text.{words_in}
 use Rattle.text.proofs.Words.{later_words}
 use Rattle.playing.specs.Setups.{words_of, past_bench, single_in, second_in, joined_in}

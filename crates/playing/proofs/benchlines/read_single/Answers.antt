@@ -1,6 +1,6 @@
-use Rattle.std.proofs.Common.{◌≡◌, ℕ, min, true, false, List, [], get_or, drop, Some, None, codes, sym, refl, ap, ◌∙◌}
+use Rattle.std.proofs.Common.{◌≡◌, true, false, [], get_or, drop, Some, None, codes, sym, refl, ap, ◌∙◌}
 use Rattle.std.specs.Str.{bytes_eq}
-use Rattle.text.specs.Text.{number_in, word_of, after_word, words_in}
+use Rattle.text.specs.Text.{number_in, words_in}
 use Rattle.text.proofs.Words.{first_word, later_words}
 use Rattle.playing.specs.declared.setups.Single.TheVariants.{Word, Row}
 use Rattle.playing.proofs.Places.{at_word, past_word}

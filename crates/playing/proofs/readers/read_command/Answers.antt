@@ -3,7 +3,7 @@ use Rattle.std.specs.Option.{option_map}
 use Rattle.text.specs.Text.{word_of, after_word, words_in}
 use Rattle.playing.specs.declared.verbs.Verb.TheVariants.{Page}
 use Rattle.playing.specs.Calls.{Call, meant}
-use Rattle.playing.specs.Commands.{verb_in, shorts_in, called_with, call_named, page_in, command_in}
+use Rattle.playing.specs.Commands.{verb_in, shorts_in, called_with, page_in, command_in}
 use Rattle.playing.proofs.Places.{command_is, numbers_follow}
 use Rattle.playing.proofs.readers.read_command.Goals as goal
 

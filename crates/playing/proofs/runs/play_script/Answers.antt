@@ -1,7 +1,7 @@
-use Rattle.std.proofs.Common.{◌≡◌, ℕ, ◌+◌, ◌<◌, Bool, true, false, List, [], ◌++◌, length, vec_items, sym, refl, ap, ◌∙◌, arith}
+use Rattle.std.proofs.Common.{◌≡◌, ◌+◌, ◌<◌, Bool, true, false, [], ◌++◌, length, vec_items, sym, ap, ◌∙◌, arith}
 use Rattle.std.proofs.lemmas.List.{nil_from_length}
 use Rattle.std.proofs.lemmas.Bool.{eqb-true, eqb-false}
-use Rattle.text.specs.Text.{line_of, after_line, lines_in}
+use Rattle.text.specs.Text.{lines_in}
 use Rattle.text.proofs.Lines.{after_shorter}
 use Rattle.playing.specs.Commands.{silent}
 use Rattle.playing.specs.declared.answers.Answer.TheVariants.{Unreadable}

@@ -1,4 +1,4 @@
-use Rattle.std.proofs.Common.{◌≡◌, [], ◌∷◌, ◌++◌, vec_items, codes, ap, ◌∙◌}
+use Rattle.std.proofs.Common.{[], ◌∷◌, ◌++◌, vec_items, codes, ap, ◌∙◌}
 use Rattle.bench.specs.Faults.{number_of}
 use Rattle.playing.specs.Answers.{spaced, part_name}
 use Rattle.playing.proofs.Written.{refusal_pushed}

@@ -1,4 +1,4 @@
-use Rattle.std.proofs.Common.{◌≡◌, ℕ, ◌<◌, List, length, get_or, IfOk, vec_items, Option, sym, ap, ◌∙◌, subst, rules}
+use Rattle.std.proofs.Common.{◌≡◌, ℕ, ◌<◌, List, length, get_or, IfOk, vec_items, Option, sym, subst, rules}
 use Rattle.std.specs.Option.{option_map}
 use Rattle.text.specs.Text.{pairs_in, bytes_in}
 use Rattle.text.proofs.Pairs.{bytes_pairs}

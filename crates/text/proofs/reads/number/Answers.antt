@@ -1,6 +1,6 @@
-use Rattle.std.proofs.Common.{◌≡◌, ℕ, ◌+◌, ◌-◌, ◌*◌, ◌^◌, ◌<◌, ◌≤◌, true, false, cond, ◌&&◌, ltb, leb, ◌∷◌, length, get_or, drop, Some, None, sym, ap, ◌∙◌, ap₂, inl, inr, arith, rules}
+use Rattle.std.proofs.Common.{◌≡◌, ℕ, ◌+◌, ◌-◌, ◌*◌, ◌^◌, ◌<◌, ◌≤◌, true, false, cond, ◌&&◌, ltb, leb, length, get_or, drop, Some, None, sym, ap, ◌∙◌, inl, inr, arith, rules}
 use Rattle.std.proofs.lemmas.List.{at_drop_more, at_drop_all}
-use Rattle.std.proofs.lemmas.Bool.{lt-leb, le-leb, and_left, and_right, and_from, eqb-false, cond-true, cond-false, lt-ltb, le-ltb, cases_lt}
+use Rattle.std.proofs.lemmas.Bool.{lt-leb, le-leb, and_left, and_right, and_from, cond-true, cond-false, lt-ltb, le-ltb, cases_lt}
 use Rattle.text.specs.Text.{is_digit, all_digits, value_after}
 use Rattle.text.proofs.Numbers.{value_grows, not_digits, too_large, number_is}
 use Rattle.text.proofs.reads.number.Goals as goal

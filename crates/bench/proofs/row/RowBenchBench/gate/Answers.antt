@@ -1,7 +1,7 @@
-use Rattle.std.proofs.Common.{◌≡◌, ℕ, ◌+◌, ◌-◌, ◌*◌, ◌/◌, ◌%◌, ◌<◌, ◌≤◌, ◌∷◌, length, get_or, set, sym, ap, ◌∙◌, subst, ap₂, arith, rules}
+use Rattle.std.proofs.Common.{◌-◌, ◌*◌, ◌<◌, ◌≤◌, ◌∷◌, length, sym, ap, ◌∙◌, subst, ap₂, arith, rules}
 use Rattle.bench.specs.Model.{part}
-use Rattle.bench.specs.Row.{fit, row_lanes, row_model, rest, rows_done}
-use Rattle.bench.proofs.RowModels.{in_bytes, in_row, rows_fit, row_gated, row_rest}
+use Rattle.bench.specs.Row.{fit, row_model, rest, rows_done}
+use Rattle.bench.proofs.RowModels.{rows_fit, row_gated, row_rest}
 use Rattle.bench.proofs.row.RowBenchBench.gate.Goals as goal
 
 pub gate_rows-requires : goal.gate_rows-requires

@@ -1,4 +1,4 @@
-use Rattle.std.proofs.Common.{◌≡◌, ℕ, ◌+◌, ◌*◌, ◌/◌, ◌%◌, ◌<◌, ◌∷◌, length, get_or, set, ap, ◌∙◌, ap₂, arith, rules}
+use Rattle.std.proofs.Common.{◌≡◌, ◌+◌, ◌*◌, ◌/◌, ◌%◌, ◌<◌, ◌∷◌, length, get_or, set, ap, ◌∙◌, ap₂, arith, rules}
 use Rattle.bench.specs.Model.{part}
 use Rattle.bench.specs.Row.{fit, row_lanes, row_model, rest, put_byte, row_put}
 use Rattle.bench.proofs.RowModels.{in_bytes, in_row, row_written, put_rest}

@@ -1,4 +1,4 @@
-use Rattle.std.proofs.Common.{◌≡◌, ◌*◌, ◌/◌, length, ap, ◌∙◌, arith, rules}
+use Rattle.std.proofs.Common.{◌*◌, ◌/◌, length, ap, arith}
 use Rattle.bench.specs.Row.{fit}
 use Rattle.bench.proofs.RowModels.{in_bytes, in_row}
 use Rattle.bench.proofs.row.RowBenchBench.show.Goals as goal

@@ -1,4 +1,4 @@
-use Rattle.std.proofs.Common.{◌≡◌, ◌-◌, ◌^◌, ◌<◌, length, get_or, set, sym, ap, ◌∙◌, ap₂, arith, rules}
+use Rattle.std.proofs.Common.{◌-◌, ◌^◌, ◌<◌, get_or, set, ◌∙◌, ap₂, arith, rules}
 use Rattle.bench.specs.Model.{part}
 use Rattle.bench.specs.Word.{word_model, word_count}
 use Rattle.bench.proofs.WordModels.{word_gated, beyond_set}

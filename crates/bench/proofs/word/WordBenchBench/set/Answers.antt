@@ -1,4 +1,4 @@
-use Rattle.std.proofs.Common.{◌≡◌, ◌<◌, length, set, ap, ◌∙◌, ap₂, arith, rules}
+use Rattle.std.proofs.Common.{◌<◌, set, ap, ◌∙◌, ap₂, arith, rules}
 use Rattle.bench.specs.Model.{part}
 use Rattle.bench.specs.Word.{word_model, word_count}
 use Rattle.bench.proofs.WordModels.{word_written, beyond_set}

@@ -1,4 +1,4 @@
-use Rattle.std.proofs.Common.{◌≡◌, Ok, sym, refl, ap, ◌∙◌, arith, rules}
+use Rattle.std.proofs.Common.{◌≡◌, Ok, refl, ap, ◌∙◌, rules}
 use Rattle.bench.specs.Model.{after}
 use Rattle.plans.specs.Plans.{open_plan}
 use Rattle.unit.specs.Works.{kind, worked, worked_in, O}

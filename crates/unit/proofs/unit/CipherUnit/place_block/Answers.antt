@@ -1,8 +1,7 @@
-use Rattle.std.proofs.Common.{◌≡◌, ◌*◌, length, set, Ok, sym, ap, ◌∙◌, arith, rules}
+use Rattle.std.proofs.Common.{◌*◌, length, set, ap, ◌∙◌, arith, rules}
 use Rattle.lane.proofs.Laying.{never}
 use Rattle.lanetable.specs.Records.{with_block}
-use Rattle.unit.specs.View.{block_placed}
-use Rattle.unit.specs.Held.{meaning, view, shape_of}
+use Rattle.unit.specs.Held.{meaning, shape_of}
 use Rattle.unit.specs.Answers.{placing}
 use Rattle.unit.proofs.Settled.{stays, becomes, accepted, placing_tells, span_accepted}
 use Rattle.unit.proofs.unit.CipherUnit.place_block.Goals as goal

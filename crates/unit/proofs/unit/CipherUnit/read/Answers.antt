@@ -1,8 +1,8 @@
-use Rattle.std.proofs.Common.{◌≡◌, ◌*◌, length, Ok, sym, ap, ◌∙◌, ap₂, arith, rules}
+use Rattle.std.proofs.Common.{◌*◌, length, ap, ◌∙◌, arith, rules}
 use Rattle.bench.specs.Model.{after}
 use Rattle.lane.specs.Spans.{shown_at}
-use Rattle.unit.specs.Held.{meaning, view, shape_of}
-use Rattle.unit.specs.Answers.{reading, given}
+use Rattle.unit.specs.Held.{meaning, shape_of}
+use Rattle.unit.specs.Answers.{reading}
 use Rattle.unit.proofs.Settled.{stays, becomes, accepted, reading_tells, span_accepted}
 use Rattle.unit.proofs.Bytes.{shown_state}
 use Rattle.unit.proofs.unit.CipherUnit.read.Goals as goal

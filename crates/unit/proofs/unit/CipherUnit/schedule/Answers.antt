@@ -1,10 +1,10 @@
-use Rattle.std.proofs.Common.{◌≡◌, Ok, sym, refl, ap, ◌∙◌, arith, rules}
+use Rattle.std.proofs.Common.{refl, ◌∙◌, rules}
 use Rattle.lane.proofs.Laying.{never}
 use Rattle.plans.specs.Plans.{schedule_plan}
-use Rattle.unit.specs.Works.{kind, worked, worked_in, K}
+use Rattle.unit.specs.Works.{kind, worked}
 use Rattle.unit.specs.Held.{meaning, shape_of}
 use Rattle.unit.specs.Lanes.{Expanded}
-use Rattle.unit.specs.Answers.{scheduling, given}
+use Rattle.unit.specs.Answers.{scheduling}
 use Rattle.unit.proofs.Settled.{stays, becomes, accepted, refused, scheduling_tells, scheduling_fits}
 use Rattle.unit.proofs.Planned.{plan_expands, plan_accepted, every_lane, no_lane}
 use Rattle.unit.proofs.unit.CipherUnit.schedule.Goals as goal
