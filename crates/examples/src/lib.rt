@@ -9,10 +9,10 @@ mod lines {
 
     #[test]
     fn lines_and_words(rt: HostRuntime) {
-        let (line, rest) = split_line(b"set  1\nend".as_slice());
+        let (line, rest) = split_line(b"set  1\nend");
         assert_eq!(rt; line, b"set  1".as_slice());
         assert_eq!(rt; rest, b"end".as_slice());
-        let (word, rest) = split_word(b"  set  1".as_slice());
+        let (word, rest) = split_word(b"  set  1");
         assert_eq!(rt; word, b"set".as_slice());
         assert_eq!(rt; rest, b"  1".as_slice());
     }
