@@ -48,33 +48,33 @@ module _ (op : ℕ → ℕ → ℕ) (f : Bool → Bool → Bool)
     (low : (a b k : ℕ) → op a b % 2 ^ k ≡ op (a % 2 ^ k) (b % 2 ^ k))
     (at00 : eqb (op 0 0) 1 ≡ f false false) (at01 : eqb (op 0 1) 1 ≡ f false true)
     (at10 : eqb (op 1 0) 1 ≡ f true false) (at11 : eqb (op 1 1) 1 ≡ f true true) where
-  at-digits : (x y : ℕ) → x < 2 → y < 2 → eqb (op x y) 1 ≡ f (eqb x 1) (eqb y 1)
-  at-digits zero zero h k = at00
-  at-digits zero (suc zero) h k = at01
-  at-digits zero (suc (suc y)) h k = absurd (omega arith)
-  at-digits (suc zero) zero h k = at10
-  at-digits (suc zero) (suc zero) h k = at11
-  at-digits (suc zero) (suc (suc y)) h k = absurd (omega arith)
-  at-digits (suc (suc x)) y h k = absurd (omega arith)
+  at_digits : (x y : ℕ) → x < 2 → y < 2 → eqb (op x y) 1 ≡ f (eqb x 1) (eqb y 1)
+  at_digits zero zero h k = at00
+  at_digits zero (suc zero) h k = at01
+  at_digits zero (suc (suc y)) h k = absurd (omega arith)
+  at_digits (suc zero) zero h k = at10
+  at_digits (suc zero) (suc zero) h k = at11
+  at_digits (suc zero) (suc (suc y)) h k = absurd (omega arith)
+  at_digits (suc (suc x)) y h k = absurd (omega arith)
 
-  odd-op : (a b : ℕ) → odd (op a b) ≡ f (odd a) (odd b)
-  odd-op a b = ap (λ (x : ℕ). eqb x 1) (low a b 1) ∙ at-digits (a % 2) (b % 2) (omega arith) (omega arith)
+  odd_op : (a b : ℕ) → odd (op a b) ≡ f (odd a) (odd b)
+  odd_op a b = ap (λ (x : ℕ). eqb x 1) (low a b 1) ∙ at_digits (a % 2) (b % 2) (omega arith) (omega arith)
 
-  bit-op : (a b i : ℕ) → bit (op a b) i ≡ f (bit a i) (bit b i)
+  bit_op : (a b i : ℕ) → bit (op a b) i ≡ f (bit a i) (bit b i)
   unfolding bit
-  bit-op a b i = ap odd (shr a b i) ∙ odd-op (a / 2 ^ i) (b / 2 ^ i)
+  bit_op a b i = ap odd (shr a b i) ∙ odd_op (a / 2 ^ i) (b / 2 ^ i)
 
 pub odd_xor : (a b : ℕ) → odd (bit_xor a b) ≡ xor_b (odd a) (odd b)
-odd_xor = odd-op bit_xor xor_b xor_shr xor_mod refl refl refl refl
+odd_xor = odd_op bit_xor xor_b xor_shr xor_mod refl refl refl refl
 
 pub bit_xor_lem : (a b i : ℕ) → bit (bit_xor a b) i ≡ xor_b (bit a i) (bit b i)
-bit_xor_lem = bit-op bit_xor xor_b xor_shr xor_mod refl refl refl refl
+bit_xor_lem = bit_op bit_xor xor_b xor_shr xor_mod refl refl refl refl
 
 pub bit_and_lem : (a b i : ℕ) → bit (bit_and a b) i ≡ (bit a i && bit b i)
-bit_and_lem = bit-op bit_and ◌&&◌ and_shr and_mod refl refl refl refl
+bit_and_lem = bit_op bit_and ◌&&◌ and_shr and_mod refl refl refl refl
 
 pub bit_or_lem : (a b i : ℕ) → bit (bit_or a b) i ≡ (bit a i || bit b i)
-bit_or_lem = bit-op bit_or ◌||◌ or_shr or_mod refl refl refl refl
+bit_or_lem = bit_op bit_or ◌||◌ or_shr or_mod refl refl refl refl
 
 is_one : (b : Bool) → eqb (cond b 1 0) 1 ≡ b
 is_one true = refl

@@ -12,7 +12,7 @@ use Rattle.circuit.specs.Places.{fits_all}
 use Rattle.circuit.proofs.Files.{Effect}
 use Rattle.coordinates.proofs.CoordinateLaws.{to_byte}
 use Rattle.standard.proofs.Tests.{tests, small_below}
-use Rattle.circuit.proofs.Unary.{wide, start, expected, same, Bytes, unary, unary-page}
+use Rattle.circuit.proofs.Unary.{wide, start, expected, same, Bytes, unary, unary_page}
 use Rattle.circuit.proofs.PlanLaws.{Proved}
 
 unfoldable pub finish : ℕ → ℕ
@@ -32,7 +32,7 @@ to_bytes zero v h = to_byte v h
 to_bytes (suc l) v h = h
 
 pub enter_page_lem : Effect (gates_of enter_page) 3 (λ fs. unary (to_coordinates ∷ []) (get_or fs 0 none))
-enter_page_lem = unary-page (gates_of enter_page) 2 (to_coordinates ∷ []) to_bytes enter_fits (omega arith) enter_ran
+enter_page_lem = unary_page (gates_of enter_page) 2 (to_coordinates ∷ []) to_bytes enter_fits (omega arith) enter_ran
 
 pub finish_fits : T (fits_all 24 (gates_of finish_page))
 unfolding fits_all gates_of finish_page
@@ -52,7 +52,7 @@ fin_bytes (suc zero) v h = finish_byte v h
 fin_bytes (suc (suc l)) v h = h
 
 pub finish_page_lem : Effect (gates_of finish_page) 3 (λ fs. unary (same ∷ finish ∷ []) (get_or fs 0 none))
-finish_page_lem = unary-page (gates_of finish_page) 2 (same ∷ finish ∷ []) fin_bytes finish_fits (omega arith) finish_ran
+finish_page_lem = unary_page (gates_of finish_page) 2 (same ∷ finish ∷ []) fin_bytes finish_fits (omega arith) finish_ran
 
 pub enter_sockets : sockets_in enter_page ≡ 1
 unfolding enter_page

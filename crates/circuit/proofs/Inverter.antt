@@ -14,7 +14,7 @@ use Rattle.circuit.proofs.BitLaws.{table}
 use Rattle.circuit.proofs.Run.{run}
 use Rattle.circuit.proofs.Files.{Shows, Effect}
 use Rattle.standard.proofs.Tests.{tests, small_below}
-use Rattle.circuit.proofs.Unary.{wide, start, expected, same, Bytes, unary, unary-page}
+use Rattle.circuit.proofs.Unary.{wide, start, expected, same, Bytes, unary, unary_page}
 use Rattle.circuit.proofs.PlanLaws.{Proved}
 
 -- the inverse, in coordinates
@@ -40,7 +40,7 @@ unfolding run wide gates_of own_inverter table coordinate_inverse
 own_ran = refl
 
 own_effect : Effect (gates_of own_inverter) 34 (λ fs. unary (same ∷ coordinate_inverse ∷ []) (get_or fs 0 none))
-own_effect = unary-page (gates_of own_inverter) 33 (same ∷ coordinate_inverse ∷ []) inverse_bytes own_fits (omega arith) own_ran
+own_effect = unary_page (gates_of own_inverter) 33 (same ∷ coordinate_inverse ∷ []) inverse_bytes own_fits (omega arith) own_ran
 
 module _ (P : List ℕ) (len : length P ≡ 34) (apart : T (distinct P)) (σ : Lane) (v : ℕ) (h : v < 256) (shown : (i : ℕ) → i < 8 → σ (8 * get_or P 0 0 + i) ≡ bit v i) where
   before : (l : ℕ) → l < 34 → Shows σ (get_or P l 0) (get_or (some v ∷ []) l none)

@@ -18,7 +18,7 @@ use Rattle.circuit.proofs.Run.{run}
 use Rattle.circuit.specs.Places.{fits_all}
 use Rattle.circuit.proofs.Files.{Effect}
 use Rattle.standard.proofs.Tests.{tests, small_below}
-use Rattle.circuit.proofs.Unary.{wide, start, expected, same, Bytes, unary, unary-page}
+use Rattle.circuit.proofs.Unary.{wide, start, expected, same, Bytes, unary, unary_page}
 use Rattle.circuit.proofs.LinearPage.{keep, sum, spares, masks, mask_run, linear, linear_page}
 use Rattle.circuit.proofs.Mix.{aff1, same_affine}
 use Rattle.circuit.proofs.PlanLaws.{Proved}
@@ -31,7 +31,7 @@ plus n v = bit_xor v (to_coordinates (Rcon n))
 pub in_place : (page : List ℕ) (m : ℕ) (F : ℕ → ℕ) → ((v : ℕ) → v < 256 → F v < 256) → T (fits_all (8 * suc m) (gates_of page))
     → take 8 (run wide none (gates_of page) (start m)) ≡ expected (F ∷ []) → Effect (gates_of page) (1 + m) (λ fs. unary (F ∷ []) (get_or fs 0 none))
 in_place page m F small fits ran =
-    subst (λ (n : ℕ). Effect (gates_of page) n (λ fs. unary (F ∷ []) (get_or fs 0 none))) (more m) (unary-page (gates_of page) m (F ∷ []) bytes fits (omega arith) ran)
+    subst (λ (n : ℕ). Effect (gates_of page) n (λ fs. unary (F ∷ []) (get_or fs 0 none))) (more m) (unary_page (gates_of page) m (F ∷ []) bytes fits (omega arith) ran)
   where
     more : (m : ℕ) → suc m ≡ 1 + m
     more m = omega arith
@@ -73,7 +73,7 @@ copy_sockets = refl
 
 pub copy_effect : Effect (gates_of copy_page) 2 (λ fs. unary (same ∷ same ∷ []) (get_or fs 0 none))
 unfolding copy_page gates_of fits_all run wide table
-copy_effect = unary-page (gates_of copy_page) 1 (same ∷ same ∷ []) copy_bytes tt (omega arith) refl
+copy_effect = unary_page (gates_of copy_page) 1 (same ∷ same ∷ []) copy_bytes tt (omega arith) refl
 
 abbrev pub copier : (inv : List ℕ) → Proved inv
 copier inv = record { page = copy_page; q = 2; c = 0; eff = λ fs. unary (same ∷ same ∷ []) (get_or fs 0 none); sockets = copy_sockets; effect = copy_effect; make = Copy; is_page = λ bs. refl; is_bases = λ bs. refl }

@@ -12,7 +12,7 @@ use Rattle.bench.specs.declared.gates.Gate.{Gate}
 use Rattle.circuit.specs.Lanes.{Lane, play_on, gate_on}
 use Rattle.circuit.specs.Places.{place, distinct, fits_all, fits_gate}
 use Rattle.circuit.proofs.Files.{Shows, File, Effect, place_apart, place_at}
-use Rattle.circuit.proofs.Run.{run, Tells, tells-after, Apart, and_l, and_r}
+use Rattle.circuit.proofs.Run.{run, Tells, tells_after, Apart, and_l, and_r}
 use Rattle.circuit.proofs.Linear.{Mask, dot, unit, dot_unit, masked, SumOf, keeps, inputs, input_at, input_last, AffineAll, BytesAll, sum_of, sum_byte, mask_of, mask_right}
 
 -- what a page does to one of its bytes: nothing, a sum of functions of the inputs, or something not told
@@ -193,7 +193,7 @@ module _ (gs : List Gate) (q m : ℕ) (rows : List Row) (fit : T (fits_all (8 * 
       after l hl (sum Fs) okr = (
         sum_byte Fs vs okr.1 small,
         λ i hi.
-            let told = (tells-after (masked one) none (SumOf (inputs vs)) (keeps one (inputs vs) one_set) (place P) (8 * (q + m)) (place_apart P (q + m) len apart) gs (start_masks q m) σ fit before).1 (8 * l + i) (omega arith) in
+            let told = (tells_after (masked one) none (SumOf (inputs vs)) (keeps one (inputs vs) one_set) (place P) (8 * (q + m)) (place_apart P (q + m) len apart) gs (start_masks q m) σ fit before).1 (8 * l + i) (omega arith) in
             let at : get_or (mask_run gs q m) (8 * l + i) none ≡ some (mask_of Fs false i)
             = sym (get_or-take 8 (drop (8 * l) (mask_run gs q m)) i none hi ∙ get_or-drop (8 * l) (mask_run gs q m) i none)
             ∙ ap (λ (x : List (Option Mask)). get_or x i none) okr.0 ∙ masks_at Fs i hi in

@@ -16,7 +16,7 @@ use Rattle.standard.proofs.ByteLaws.{byte_of_small}
 use Rattle.standard.proofs.StateLaws.{bytes_at, sixteen_state}
 use Rattle.standard.proofs.Rounds.{inv_state_after_state}
 use Rattle.coordinates.proofs.CoordinateLaws.{from_to}
-use Rattle.circuit.proofs.Staged.{raw, states, state-after, kept-after}
+use Rattle.circuit.proofs.Staged.{raw, states, state_after_lem, kept_after}
 use Rattle.circuit.proofs.Keys.{key_byte, key_small, key_last, key_between, some_rounds}
 use Rattle.circuit.proofs.SealStands.{plain_add, behind}
 use Rattle.circuit.proofs.OpenStages.{open_steps, open_out, open_ok, unsub, coordinate_unmix}
@@ -68,7 +68,7 @@ module _ (inv : List ℕ) (E : Inverts inv) (κ : KeyKind) (σ : Lane) where
   shown n = states inv (free κ - 16) (rounds κ) (open_stage κ) (open_to κ) (to_first κ) (to_more κ) (open_steps E κ) (out κ) (open_ok E κ) σ n
 
   reached : (n : ℕ) → n ≤ rounds κ → state_of (run_plan inv (open_to κ n) σ) ≡ sixteen (λ j. get_or (shown n) j 0)
-  reached = state-after inv (free κ - 16) (rounds κ) (open_stage κ) (open_to κ) (to_first κ) (to_more κ) (open_steps E κ) (out κ) (open_ok E κ) σ
+  reached = state_after_lem inv (free κ - 16) (rounds κ) (open_stage κ) (open_to κ) (to_first κ) (to_more κ) (open_steps E κ) (out κ) (open_ok E κ) σ
 
   bytes : (n : ℕ) → BytesAll (after n)
   bytes n = (inv_state_after_state (state_of σ) (keys_of κ σ) (sixteen_state (raw σ) (λ j. byte_of_small σ (8 * j))) (λ m. sixteen_state (key_byte κ σ m) (key_small κ σ m)) (rounds κ) n).1
@@ -117,5 +117,5 @@ module _ (inv : List ℕ) (E : Inverts inv) (κ : KeyKind) (σ : Lane) where
 pub open_stands_lem : (inv : List ℕ) → Inverts inv → (κ : KeyKind) → OpenStands inv κ
 open_stands_lem inv E κ σ = (
   reached inv E κ σ (rounds κ) (omega arith) ∙ ap (λ (xs : List ℕ). sixteen (λ j. get_or xs j 0)) (final inv E κ σ),
-  λ r lo hi. kept-after inv (free κ - 16) (rounds κ) (open_stage κ) (open_to κ) (to_first κ) (to_more κ) (open_steps E κ) (out κ) (open_ok E κ) σ (rounds κ) (omega arith) r lo (omega (arith, behind κ)),
+  λ r lo hi. kept_after inv (free κ - 16) (rounds κ) (open_stage κ) (open_to κ) (to_first κ) (to_more κ) (open_steps E κ) (out κ) (open_ok E κ) σ (rounds κ) (omega arith) r lo (omega (arith, behind κ)),
 )

@@ -69,11 +69,11 @@ module _ {A : Type 0} (op : Kind → A → A → A) (d : A) (R : A → Bool → 
       ] in
       (length-set m t new ∙ len, λ i hi. at i hi (cases_eq i t))
 
-  pub tells-after : (gs : List Gate) (m : List A) (σ : Lane) → T (fits_all n gs) → Tells m σ → Tells (run op d gs m) (play_on f gs σ)
+  pub tells_after : (gs : List Gate) (m : List A) (σ : Lane) → T (fits_all n gs) → Tells m σ → Tells (run op d gs m) (play_on f gs σ)
   unfolding run play_on fits_all
-  tells-after [] m σ fit tells = tells
-  tells-after (g ∷ gs) m σ fit tells =
-      tells-after gs (step op d g m) (gate_on f g σ) (and_r (fits_gate n g) (fits_all n gs) fit) (one g m σ (and_l (fits_gate n g) (fits_all n gs) fit) tells)
+  tells_after [] m σ fit tells = tells
+  tells_after (g ∷ gs) m σ fit tells =
+      tells_after gs (step op d g m) (gate_on f g σ) (and_r (fits_gate n g) (fits_all n gs) fit) (one g m σ (and_l (fits_gate n g) (fits_all n gs) fit) tells)
 
 -- a register that no number stands for is as it was
 pub untouched : (f : ℕ → ℕ) (n r : ℕ) → ((i : ℕ) → i < n → r ≡ f i → ⊥) → (gs : List Gate) (σ : Lane) → T (fits_all n gs) → play_on f gs σ r ≡ σ r

@@ -21,7 +21,7 @@ use Rattle.standard.proofs.FieldLaws.{inverse_byte}
 use Rattle.standard.proofs.StateLaws.{bytes_at, sixteen_state}
 use Rattle.standard.proofs.Rounds.{state_after_state}
 use Rattle.coordinates.proofs.CoordinateLaws.{from_to}
-use Rattle.circuit.proofs.Staged.{raw, states, state-after, kept-after}
+use Rattle.circuit.proofs.Staged.{raw, states, state_after_lem, kept_after}
 use Rattle.circuit.proofs.Keys.{key_byte, key_small, key_last, key_between, some_rounds}
 use Rattle.circuit.proofs.SealStages.{stage_steps, stage_out, stage_ok}
 
@@ -83,7 +83,7 @@ module _ (inv : List ℕ) (E : Inverts inv) (κ : KeyKind) (σ : Lane) where
   small n = bytes_at (after n) (state_after_state (state_of σ) (keys_of κ σ) (sixteen_state (raw σ) (λ j. byte_of_small σ (8 * j))) (λ m. sixteen_state (key_byte κ σ m) (key_small κ σ m)) n).1
 
   reached : (n : ℕ) → n ≤ rounds κ → state_of (run_plan inv (stages_to κ n) σ) ≡ sixteen (λ j. get_or (shown n) j 0)
-  reached = state-after inv (free κ - 16) (rounds κ) (stage_plan κ) (stages_to κ) (to_first κ) (to_more κ) (stage_steps E κ) (out κ) (stage_ok E κ) σ
+  reached = state_after_lem inv (free κ - 16) (rounds κ) (stage_plan κ) (stages_to κ) (to_first κ) (to_more κ) (stage_steps E κ) (out κ) (stage_ok E κ) σ
 
   in_coordinates : (n : ℕ) → n < rounds κ → shown n ≡ map to_coordinates (after n)
   unfolding states
@@ -122,5 +122,5 @@ pub seal_stands_lem : (inv : List ℕ) → Inverts inv → (κ : KeyKind) → Se
 seal_stands_lem inv E κ σ = (
   (λ n h. reached inv E κ σ n (omega arith) ∙ ap (λ (xs : List ℕ). sixteen (λ j. get_or xs j 0)) (in_coordinates inv E κ σ n h) ∙ spine_coordinates (raw σ) (key_byte κ σ) n),
   reached inv E κ σ (rounds κ) (omega arith) ∙ ap (λ (xs : List ℕ). sixteen (λ j. get_or xs j 0)) (final inv E κ σ),
-  λ r lo hi. kept-after inv (free κ - 16) (rounds κ) (stage_plan κ) (stages_to κ) (to_first κ) (to_more κ) (stage_steps E κ) (out κ) (stage_ok E κ) σ (rounds κ) (omega arith) r lo (omega (arith, behind κ)),
+  λ r lo hi. kept_after inv (free κ - 16) (rounds κ) (stage_plan κ) (stages_to κ) (to_first κ) (to_more κ) (stage_steps E κ) (out κ) (stage_ok E κ) σ (rounds κ) (omega arith) r lo (omega (arith, behind κ)),
 )

@@ -80,8 +80,8 @@ module _ (inv : List ℕ) (w N : ℕ) (plan to : ℕ → List Play) (first : to 
       subst (λ τ. Shown w τ (λ j. get_or (states (suc n)) j 0) (raw σ)) (sym (ap (λ p. run_plan inv p σ) (more n) ∙ run_append inv (to n) (plan (suc n)) σ))
       (stage inv w (plan (suc n)) (steps (suc n)) (λ s k. out (suc n) (map s (range_with_len 0 16)) k) (λ k. k) (ok (suc n) h) (run_plan inv (to n) σ) (λ j. get_or (states n) j 0) (raw σ) (shown_after n (omega arith)))
 
-  pub state-after : (n : ℕ) → n ≤ N → state_of (run_plan inv (to n) σ) ≡ sixteen (λ j. get_or (states n) j 0)
-  state-after n h = state_read w (run_plan inv (to n) σ) (λ j. get_or (states n) j 0) (raw σ) (shown_after n h)
+  pub state_after_lem : (n : ℕ) → n ≤ N → state_of (run_plan inv (to n) σ) ≡ sixteen (λ j. get_or (states n) j 0)
+  state_after_lem n h = state_read w (run_plan inv (to n) σ) (λ j. get_or (states n) j 0) (raw σ) (shown_after n h)
 
-  pub kept-after : (n : ℕ) → n ≤ N → (r : ℕ) → 128 ≤ r → r < 8 * (16 + w) → run_plan inv (to n) σ r ≡ σ r
-  kept-after n h r lo hi = bit_kept σ (run_plan inv (to n) σ) r ((shown_after n h).1 (r / 8) (omega arith) (omega arith))
+  pub kept_after : (n : ℕ) → n ≤ N → (r : ℕ) → 128 ≤ r → r < 8 * (16 + w) → run_plan inv (to n) σ r ≡ σ r
+  kept_after n h r lo hi = bit_kept σ (run_plan inv (to n) σ) r ((shown_after n h).1 (r / 8) (omega arith) (omega arith))

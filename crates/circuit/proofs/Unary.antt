@@ -13,7 +13,7 @@ use Rattle.bench.specs.declared.kinds.Kind.TheVariants.{Xor, And, Or, Xnor, Nand
 use Rattle.circuit.specs.Lanes.{Lane, play_on}
 use Rattle.circuit.specs.Places.{place, distinct, fits_all}
 use Rattle.circuit.proofs.Files.{Shows, File, Effect, place_apart, place_at}
-use Rattle.circuit.proofs.Run.{run, Tells, tells-after}
+use Rattle.circuit.proofs.Run.{run, Tells, tells_after}
 
 -- ---- gates on 256 lanes
 unfoldable pub full : ℕ
@@ -154,15 +154,15 @@ module _ (gs : List Gate) (m : ℕ) (Fs : List (ℕ → ℕ)) (bytes : Bytes Fs)
     after l hl = (
       bytes l v hv,
       λ i hi.
-          let told = (tells-after wide none (LaneOf v) (keeps v hv) (place P) (8 * suc m) (place_apart P (suc m) len apart) gs (start m) σ fit before).1 (8 * l + i) (omega arith) in
+          let told = (tells_after wide none (LaneOf v) (keeps v hv) (place P) (8 * suc m) (place_apart P (suc m) len apart) gs (start m) σ fit before).1 (8 * l + i) (omega arith) in
           let known : get_or (run wide none gs (start m)) (8 * l + i) none ≡ some (table (get_or Fs l same) 256 i)
           = sym (get_or-take (8 * length Fs) (run wide none gs (start m)) (8 * l + i) none (omega arith)) ∙ ap (λ (x : List (Option ℕ)). get_or x (8 * l + i) none) ran ∙ expected_at Fs l i hl hi in
           let e : bit (table (get_or Fs l same) 256 i) v ≡ play_on (place P) gs σ (place P (8 * l + i)) = subst (λ (o : Option ℕ). LaneOf v o (play_on (place P) gs σ (place P (8 * l + i)))) known told in
           ap (play_on (place P) gs σ) (sym (place_at P l i hi)) ∙ sym e ∙ bit_table (get_or Fs l same) 256 i v hv,
     )
 
-  pub unary-page : Effect gs (suc m) (λ fs. unary Fs (get_or fs 0 none))
-  unary-page = record {
+  pub unary_page : Effect gs (suc m) (λ fs. unary Fs (get_or fs 0 none))
+  unary_page = record {
     fit = fit;
     does = λ P len apart σ fs shows l hl. go P len apart σ (get_or fs 0 none) (shows 0 (omega arith)) l;
   }

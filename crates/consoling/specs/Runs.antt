@@ -38,9 +38,9 @@ answers_text (turn.Call ∷ ts) [] = answers_text ts []
 answers_text (turn.Call ∷ ts) (x ∷ xs) = answer_text x ++ answers_text ts xs
 
 -- one turn written, with the entries es, of which those before next were written before it and those before k then are
-pub record Turned (t : Turn) (es : List Entry) (next k : ℕ) (was now-is : List ℕ) : Type 0 where
+pub record Turned (t : Turn) (es : List Entry) (next k : ℕ) (was now_is : List ℕ) : Type 0 where
   pub within : k ≤ length es
-  pub text : (ts : List Turn) → now-is ++ answers_text ts (lines (drop k es)) ≡ was ++ answers_text (t ∷ ts) (lines (drop next es))
+  pub text : (ts : List Turn) → now_is ++ answers_text ts (lines (drop k es)) ≡ was ++ answers_text (t ∷ ts) (lines (drop next es))
 
 -- the lines ls after a bench line, of which the first is line n
 abbrev pub part_text : Bool → Setup → ℕ → List (List ℕ) → List ℕ

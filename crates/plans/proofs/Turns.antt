@@ -12,9 +12,9 @@ module _ (inv : List ℕ) (xs : List Play) (i : ℕ) (d : Play) (below : i < len
   asked : ask_play inv (get_or xs i d) m ≡ play_answer m pb bs
   asked = sym (ap₂ (play_answer m) e f)
 
-  answer-step : plays_answer inv (drop i xs) m ≡ and_then (play_answer m pb bs) (plays_answer inv (drop (i + 1) xs) (do_play inv (get_or xs i d) m))
+  answer_step : plays_answer inv (drop i xs) m ≡ and_then (play_answer m pb bs) (plays_answer inv (drop (i + 1) xs) (do_play inv (get_or xs i d) m))
   unfolding plays_answer
-  answer-step =
+  answer_step =
       ap (λ (ys : List Play). plays_answer inv ys m) (drop_more xs i d below)
       ∙ ap (λ r. and_then r (plays_answer inv (drop (i + 1) xs) (do_play inv (get_or xs i d) m))) asked
 
@@ -27,7 +27,7 @@ module _ (inv : List ℕ) (xs : List Play) (i : ℕ) (d : Play) (below : i < len
   -- a play that is refused
   module _ (x : Fault) (said : Err x ≡ play_answer m pb bs) where
     pub answer_stops : plays_answer inv (drop i xs) m ≡ Err x
-    answer_stops = answer-step ∙ sym (ap (λ r. and_then r (plays_answer inv (drop (i + 1) xs) (do_play inv (get_or xs i d) m))) said)
+    answer_stops = answer_step ∙ sym (ap (λ r. and_then r (plays_answer inv (drop (i + 1) xs) (do_play inv (get_or xs i d) m))) said)
 
     pub carried_stops : {Y : Type 0} (g : Play → Y → Y) (y : Y) → carried inv g (drop i xs) m y ≡ y
     carried_stops g y = carried_step g y ∙ sym (ap (λ r. after r (carried inv g (drop (i + 1) xs) (do_play inv (get_or xs i d) m) (g (get_or xs i d) y)) y) said)
@@ -39,7 +39,7 @@ module _ (inv : List ℕ) (xs : List Play) (i : ℕ) (d : Play) (below : i < len
 
     pub answer_goes : plays_answer inv (drop i xs) m ≡ plays_answer inv (drop (i + 1) xs) m'
     answer_goes =
-        answer-step ∙ sym (ap (λ r. and_then r (plays_answer inv (drop (i + 1) xs) (do_play inv (get_or xs i d) m))) said)
+        answer_step ∙ sym (ap (λ r. and_then r (plays_answer inv (drop (i + 1) xs) (do_play inv (get_or xs i d) m))) said)
         ∙ ap (plays_answer inv (drop (i + 1) xs)) next
 
     pub carried_goes : {Y : Type 0} (g : Play → Y → Y) (y y' : Y) → g (get_or xs i d) y ≡ y' → carried inv g (drop i xs) m y ≡ carried inv g (drop (i + 1) xs) m' y'

@@ -74,12 +74,12 @@ pub record Answered (m : Model) (p : List ℕ) (n : ℕ) (l : List ℕ) (a : Ans
   pub kept_as : p' ≡ keeps p (command_in l)
 
 -- one line done: what is appended, the meaning after it and the page kept after it
-pub record Stepped (m : Model) (p : List ℕ) (n : ℕ) (l : List ℕ) (was now-is : List ℕ) (m' : Model) (p' : List ℕ) : Type 0 where
-  pub text : now-is ≡ was ++ line_text m p n l
+pub record Stepped (m : Model) (p : List ℕ) (n : ℕ) (l : List ℕ) (was now_is : List ℕ) (m' : Model) (p' : List ℕ) : Type 0 where
+  pub text : now_is ≡ was ++ line_text m p n l
   pub left_as : m' ≡ line_leaves m p l
   pub kept_as : p' ≡ line_keeps p l
 
 -- the outcome appended, with memory for the bench or without
-pub record Wrote (m : Model) (n : ℕ) (ls : List (List ℕ)) (was now-is : List ℕ) : Type 0 where
+pub record Wrote (m : Model) (n : ℕ) (ls : List (List ℕ)) (was now_is : List ℕ) : Type 0 where
   pub room : Bool
-  pub text : now-is ≡ was ++ outcome room m n ls
+  pub text : now_is ≡ was ++ outcome room m n ls
