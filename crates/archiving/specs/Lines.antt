@@ -1,10 +1,10 @@
 -- The lines of the archive, as bytes. Assumes nothing.
 --
---   padded n           spaces, one at least, and the digits of n; four places for these
---   gate_text i g       gate g with the index i, its kind, target and operands
---   low_text w n        the lowest n bytes of w in hexadecimal digits, the highest of them first
+--   padded n                 spaces, one at least, and the digits of n; four places for these
+--   gate_text i g            gate g with the index i, its kind, target and operands
+--   low_text w n             the lowest n bytes of w in hexadecimal digits, the highest of them first
 --   mask_line, column_line   a gate with its check
---   play_line i p       play p with the index i, its page's name and its bases
+--   play_line i p            play p with the index i, its page's name and its bases
 use Rattle.std.specs.Prelude.{ℕ, zero, suc, ◌*◌, ◌/◌, ◌%◌, ◌^◌, cond, List, [], ◌∷◌, ◌++◌, codes, ◌==◌, bit_xor, nat_lt}
 use Rattle.std.specs.List.{flat_map}
 use Rattle.bench.specs.declared.gates.Gate.{Gate}

@@ -1,10 +1,10 @@
 -- What a longer text holds. Assumes nothing.
 --
---   Holds parts text          the parts stand in the text, in this order, with anything before, between and behind them
---   Extends parts had all     the text all is had and then more, which holds the parts
+--   Holds parts text           the parts stand in the text, in this order, with anything before, between and behind them
+--   Extends parts had all      the text all is had and then more, which holds the parts
 --   page_parts inv ps          the listings of the pages of the plays ps, where inv is the inverter
---   every_page, every_play      the listings of all pages, and the lines of all plays of the three plans
---   Reached plan a had all b  all is had and then more, which holds the plan's lines from index a up to index b
+--   every_page, every_play     the listings of all pages, and the lines of all plays of the three plans
+--   Reached plan a had all b   all is had and then more, which holds the plan's lines from index a up to index b
 use Rattle.std.specs.Prelude.{◌≡◌, ℕ, ◌+◌, ◌≤◌, List, [], ◌∷◌, ◌++◌, map, length, take, drop}
 use Rattle.plans.specs.declared.plays.Play.{Play}
 use Rattle.plans.specs.Pages.{add_page, enter_page, own_inverter, mix_page, finish_page, copy_page, affine_page, sum_page, leave_page, unaffine_page, unmix_page, rcon_page}

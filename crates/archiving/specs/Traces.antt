@@ -1,7 +1,7 @@
 -- Gates on words: word n of a list is what number n of a page holds, bit l of it in case l. Assumes nothing.
 --
 --   made_by g ws      what gate g makes of its operands' words
---   stepped g ws     the words after gate g
+--   stepped g ws      the words after gate g
 --   unit_words q n    the first n words of which case i has input i alone at 1, of 8·q inputs, at most 64
 --   input_words k n   the first n words of which case l has the byte 64·k + l in socket 0
 use Rattle.std.specs.Prelude.{ℕ, zero, suc, ◌-◌, ◌/◌, ◌%◌, ◌^◌, cond, ◌&&◌, List, map, ◌==◌, nat_lt, slice_index, slice_set}

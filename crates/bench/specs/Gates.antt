@@ -1,6 +1,6 @@
 -- Gates done one after another. Assumes nothing.
 --
---   ran gs m     the meaning m after the gates gs
+--   ran gs m      the meaning m after the gates gs
 --   ran_in gs x   the same on the bottom benches beneath
 use Rattle.std.specs.Prelude.{List, [], ◌∷◌}
 use Rattle.bench.specs.declared.gates.Gate.{Gate}

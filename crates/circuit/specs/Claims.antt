@@ -3,7 +3,7 @@
 --   state_of σ      the sixteen bytes of the state
 --   keys_of κ σ n   round key n: the first and the last are plain, those between in coordinates
 --   key_of κ σ      the key: its first sixteen bytes are round key 0, the others stand behind the last round key
---   Inverts inv    inv may be played as the inverter
+--   Inverts inv     inv may be played as the inverter
 use Rattle.std.specs.Prelude.{◌≡◌, ℕ, ◌+◌, ◌-◌, ◌*◌, ◌<◌, ◌≤◌, cond, ◌||◌, T, List, map, length, ◌==◌, nat_lt, slice_index}
 use Rattle.std.specs.List.{range_with_len}
 use Rattle.standard.specs.Bits.{bit, byte_of}

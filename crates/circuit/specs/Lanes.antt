@@ -1,9 +1,9 @@
 -- Gates, pages and plans on one lane. Assumes nothing.
 --
---   Lane            what the registers of one lane show
---   lane_of m l      lane l of a bench's meaning
---   play_on f gs σ   the lane σ after the gates gs, whose numbers stand for registers by f
---   run_plan inv ps  a lane after a plan, where inv is played as the inverter
+--   Lane              what the registers of one lane show
+--   lane_of m l       lane l of a bench's meaning
+--   play_on f gs σ    the lane σ after the gates gs, whose numbers stand for registers by f
+--   run_plan inv ps   a lane after a plan, where inv is played as the inverter
 use Rattle.std.specs.Prelude.{ℕ, Bool, cond, List, [], ◌∷◌, ◌==◌}
 use Rattle.bench.specs.Kinds.{gate_result}
 use Rattle.bench.specs.Model.{Model}

@@ -1,7 +1,7 @@
 -- Whole bytes of registers: byte b is registers 8·b to 8·b + 7, bit 0 first. Assumes nothing.
 --
 --   place P n    number n of a page whose byte l stands at byte P(l)
---   fits_all n    each number of each gate is below n
+--   fits_all n   each number of each gate is below n
 use Rattle.std.specs.Prelude.{ℕ, ◌+◌, ◌*◌, ◌/◌, ◌%◌, Bool, true, false, not, ◌&&◌, ◌||◌, List, [], ◌∷◌, ◌==◌, nat_lt, slice_index}
 use Rattle.bench.specs.declared.gates.Gate.{Gate}
 

@@ -1,11 +1,11 @@
 -- What is written for a whole script. Assumes nothing.
 --
---   unit_on s           the unit over the bench that s writes, over memory of zeros
---   answers_text ts xs  what is written for the turns ts, of which those of calls have the answers xs
---   part_text           what is written for the lines after a bench line
---   console_text t      what is written for the script t
---   Ran, RanBoth       a list of calls performed on a unit, and two on a unit each: the answers, and the law over them
---   ConsoleLaw t       the law over the calls of the script t and their answers
+--   unit_on s            the unit over the bench that s writes, over memory of zeros
+--   answers_text ts xs   what is written for the turns ts, of which those of calls have the answers xs
+--   part_text            what is written for the lines after a bench line
+--   console_text t       what is written for the script t
+--   Ran, RanBoth         a list of calls performed on a unit, and two on a unit each: the answers, and the law over them
+--   ConsoleLaw t         the law over the calls of the script t and their answers
 use Rattle.std.specs.Prelude.{◌≡◌, ℕ, ◌≤◌, Bool, true, false, cond, List, [], ◌∷◌, ◌++◌, length, drop, Some, None, codes, Option}
 use Rattle.text.specs.Text.{lines_in}
 use Rattle.bench.specs.Model.{Model, part}

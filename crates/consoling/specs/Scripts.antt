@@ -1,11 +1,11 @@
 -- What the lines of a script give. Assumes nothing.
 --
---   besides l            whether the line l is the word `beside`, which begins a second script
---   turns_in stop n ls    what is written for the lines ls, of which the first is line n: an answer, or that a line cannot be read
---   calls_in stop ls      their calls
---   parted_in, beyond, number_beyond    whether there is a line `beside` among them, the lines after it, and the number of the first of these
---   found_in n ls         what the first line that is not silent says, where a bench is to stand
---   past_bench, number_past             the lines after that line, and the number of the first of these
+--   besides l                          whether the line l is the word `beside`, which begins a second script
+--   turns_in stop n ls                 what is written for the lines ls, of which the first is line n: an answer, or that a line cannot be read
+--   calls_in stop ls                   their calls
+--   parted_in, beyond, number_beyond   whether there is a line `beside` among them, the lines after it, and the number of the first of these
+--   found_in n ls                      what the first line that is not silent says, where a bench is to stand
+--   past_bench, number_past            the lines after that line, and the number of the first of these
 --
 -- With `stop` the lines end before a line `beside`; without it such a line cannot be read.
 use Rattle.std.specs.Prelude.{◌≡◌, ℕ, ◌+◌, Bool, true, false, cond, ◌&&◌, List, [], ◌∷◌, ◌++◌, length, drop, Some, None, codes, Option, ◌==◌, slice_index_or}

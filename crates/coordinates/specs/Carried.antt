@@ -1,10 +1,10 @@
 -- Rules on bytes carried into coordinates. Assumes nothing.
 --
---   carried f c        the rule f on bytes, between coordinates
+--   carried f c      the rule f on bytes, between coordinates
 --   carried_affine, carried_inv_affine, carried_times m, carried_inverse
---                      the affine rule and its inverse, the product by m, the inverse
---   carried_rcon n      the coordinates of round constant n
---   Carries f          the carried rule takes the coordinates of each byte b to those of f b
+--                    the affine rule and its inverse, the product by m, the inverse
+--   carried_rcon n   the coordinates of round constant n
+--   Carries f        the carried rule takes the coordinates of each byte b to those of f b
 use Rattle.std.specs.Prelude.{◌≡◌, ℕ, ◌<◌}
 use Rattle.standard.specs.Field.{mul, inverse, affine, inv_affine}
 use Rattle.standard.specs.KeyExpansion.{Rcon}

@@ -6,8 +6,8 @@
 --
 --   from_coordinates c   the byte whose coordinates are the bits of c, c0 the lowest
 --   to_coordinates b     the coordinates of b
---   OnlyCoordinates     a byte's coordinates are the only eight bits that give it
---   XorInCoordinates    the coordinates of an XOR are the XOR of the coordinates
+--   OnlyCoordinates      a byte's coordinates are the only eight bits that give it
+--   XorInCoordinates     the coordinates of an XOR are the XOR of the coordinates
 use Rattle.std.specs.Prelude.{◌≡◌, ℕ, suc, ◌<◌, cond, List, [], ◌∷◌, bit_xor}
 use Rattle.standard.specs.Bits.{bit}
 

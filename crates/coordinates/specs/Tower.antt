@@ -1,11 +1,11 @@
 -- The tower that the coordinates come from: its products, and the inverse by its formula. Assumes nothing.
 --
---   BasisIsProducts    the eight chosen bytes are the products of 1b or fa, 01 or 5c, and bd or bc
---   Sixteenth y        y is a byte whose sixteenth power is y: one of the sixteen bytes of the middle field
---   over p q           the byte p·1b + q·fa, where + is XOR and · the field's product
---   InverseByTower     the inverse of p·1b + q·fa is g⁻¹·q·1b + g⁻¹·p·fa, where g = 5c·p·q + bd·(p + q)²
+--   BasisIsProducts           the eight chosen bytes are the products of 1b or fa, 01 or 5c, and bd or bc
+--   Sixteenth y               y is a byte whose sixteenth power is y: one of the sixteen bytes of the middle field
+--   over p q                  the byte p·1b + q·fa, where + is XOR and · the field's product
+--   InverseByTower            the inverse of p·1b + q·fa is g⁻¹·q·1b + g⁻¹·p·fa, where g = 5c·p·q + bd·(p + q)²
 --   first_of u, second_of u   the p and the q of a byte u
---   EveryByteOnce      every byte is over p q for one pair p, q of such bytes, and for one only
+--   EveryByteOnce             every byte is over p q for one pair p, q of such bytes, and for one only
 use Rattle.std.specs.Prelude.{◌≡◌, ℕ, ◌<◌, List, [], ◌∷◌, ◌++◌, map, bit_xor}
 use Rattle.standard.specs.Field.{mul, inverse}
 use Rattle.coordinates.specs.Coordinates.{basis}

@@ -1,10 +1,10 @@
 -- Bytes in the registers of one lane. Assumes nothing.
 --
---   span base n            the n registers from base on
---   bits_of bytes           the bits of a list of bytes, eight a byte, bit 0 the lowest
---   laid base n lane f m   the meaning m with f 0, f 1, .. in the span of that lane; laid_in, the same beneath
---   shown_at m base lane n  the n bytes that the registers from base on show in that lane
---   span_answer             whether there is such a span: else the first register at fault, then the lane
+--   span base n              the n registers from base on
+--   bits_of bytes            the bits of a list of bytes, eight a byte, bit 0 the lowest
+--   laid base n lane f m     the meaning m with f 0, f 1, .. in the span of that lane; laid_in, the same beneath
+--   shown_at m base lane n   the n bytes that the registers from base on show in that lane
+--   span_answer              whether there is such a span: else the first register at fault, then the lane
 use Rattle.std.specs.Prelude.{ℕ, zero, suc, ◌+◌, ◌-◌, ◌*◌, ◌/◌, ◌%◌, max, Bool, false, cond, ◌&&◌, List, map, Ok, Err, Result, ◌==◌, nat_le, nat_lt, slice_index}
 use Rattle.std.specs.List.{range_with_len}
 use Rattle.standard.specs.Bits.{bit, byte_of}

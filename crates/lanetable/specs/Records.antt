@@ -1,8 +1,8 @@
 -- The records of the lanes. Assumes nothing.
 --
---   promotes r           a record after a scheduling: a placed key is then scheduled
---   unready r            a block without a scheduled key
---   lowest_unready rs     the lowest lane of which that holds, if any
+--   promotes r          a record after a scheduling: a placed key is then scheduled
+--   unready r           a block without a scheduled key
+--   lowest_unready rs   the lowest lane of which that holds, if any
 use Rattle.std.specs.Prelude.{ℕ, ◌+◌, Bool, true, false, cond, not, ◌&&◌, ◌||◌, List, [], ◌∷◌, Some, None, Option}
 use Rattle.lanetable.specs.declared.records.KeyState.{KeyState}
 use Rattle.lanetable.specs.declared.records.KeyState.TheVariants.{Absent, Placed, Scheduled}

@@ -1,9 +1,9 @@
 -- Plays and lists of plays: their pages and bases, and what they do to a bench. Assumes nothing.
 --
---   inv            the page that is played as the inverter: the repository's own is own_inverter
+--   inv             the page that is played as the inverter: the repository's own is own_inverter
 --   page_of inv p   the page of a play; bases_of p, its bases
---   planned        a plan's gates, done one after another; plan_gates, how many they are
---   fit inv R ps   every play's bases fit in R registers
+--   planned         a plan's gates, done one after another; plan_gates, how many they are
+--   fit inv R ps    every play's bases fit in R registers
 --   plays_answer    what a plan answers that is played until the first refusal; carried, what it leaves
 use Rattle.std.specs.Prelude.{ℕ, ◌+◌, Bool, true, false, ◌&&◌, List, [], ◌∷◌, Some, None, Ok, Err, Option, Result}
 use Rattle.bench.specs.declared.faults.Fault.{Fault}

@@ -1,6 +1,6 @@
 -- The text of an answer. Assumes nothing.
 --
---   spaced ns      numbers, each with a space before it
+--   spaced ns       numbers, each with a space before it
 --   part_name p     the word for a part
 --   answer_text a   the answer, as it is written
 --   answer_line a   the same with the byte 10 that ends its line

@@ -1,8 +1,8 @@
 -- A call, and what it answers and leaves. Assumes nothing.
 --
---   Call                  a call of a script, with its numbers and bytes as lists
---   meant c               the call that a command stands for
---   done_or r, bit_or r     the answer to a call that a bench or the player did or refused
+--   Call                   a call of a script, with its numbers and bytes as lists
+--   meant c                the call that a command stands for
+--   done_or r, bit_or r    the answer to a call that a bench or the player did or refused
 --   page_answer bytes      the answer to a page
 --   call_answer m p c      the answer to the call c, on a bench of the meaning m with the page p kept
 --   call_leaves m p c      the meaning after that call

@@ -1,20 +1,20 @@
 -- How a line writes a call. Assumes nothing.
 --
---   silent l              whether the line l is empty, of spaces only, or begins with `#`
---   verb_in w              the call that the word w names
---   up_to most n           the number n, if it is at most that
---   short_in w             the number that the word w writes, up to 65535
---   shorts_in ws           all of those numbers
---   alone_in c ns          the call c, where no number follows its name
+--   silent l                whether the line l is empty, of spaces only, or begins with `#`
+--   verb_in w               the call that the word w names
+--   up_to most n            the number n, if it is at most that
+--   short_in w              the number that the word w writes, up to 65535
+--   shorts_in ws            all of those numbers
+--   alone_in c ns           the call c, where no number follows its name
 --   set_in ns, show_in ns   the calls of a register in a lane, from the numbers after their names
---   gate_of k t a b        a gate of that kind, if there is such a kind
---   gate_in ns             the gate that the numbers after its name write
---   called v ns           the call of that name with those numbers
---   called_with v o        the same, where the numbers could be read
---   page_in ws             the page that the words after its name write
---   call_named v ws        the call of that name with those words
---   call_in ws             the call that the words ws of a line write
---   command_in l           the call that the line l writes
+--   gate_of k t a b         a gate of that kind, if there is such a kind
+--   gate_in ns              the gate that the numbers after its name write
+--   called v ns             the call of that name with those numbers
+--   called_with v o         the same, where the numbers could be read
+--   page_in ws              the page that the words after its name write
+--   call_named v ws         the call of that name with those words
+--   call_in ws              the call that the words ws of a line write
+--   command_in l            the call that the line l writes
 use Rattle.std.specs.Prelude.{ℕ, Bool, cond, ◌&&◌, ◌||◌, List, [], ◌∷◌, length, drop, Some, None, codes, Option, ◌==◌, nat_le, nat_lt, slice_index, slice_index_or}
 use Rattle.std.specs.Option.{option_map}
 use Rattle.std.specs.Str.{bytes_eq}

@@ -1,16 +1,16 @@
 -- A whole script: what is written for it. Assumes nothing.
 --
---   answer_to m p n o      the answer to line n, which writes the call o, on a bench of the meaning m with the page p kept
+--   answer_to m p n o     the answer to line n, which writes the call o, on a bench of the meaning m with the page p kept
 --   leaves m p o          the meaning after that line
 --   keeps p o             the page kept after that line
---   line_text m p n l      what is written for the line l, which may be silent
---   line_leaves m p l      the meaning after it
---   line_keeps p l         the page kept after it
+--   line_text m p n l     what is written for the line l, which may be silent
+--   line_leaves m p l     the meaning after it
+--   line_keeps p l        the page kept after it
 --   answers m p n ls      what is written for the lines ls, of which the first is line n
 --   outcome room m n ls   the same for a bench of the meaning m at first; room says whether there was memory for it
 --   opened room n o ls    what is written from line n on, which is to write the bench and writes o
---   from_line room n ls    what is written from line n on, where no bench stands yet
---   script_text room t     what is written for the script t
+--   from_line room n ls   what is written from line n on, where no bench stands yet
+--   script_text room t    what is written for the script t
 --   Answered, Stepped     one line answered, and one line done
 --   Wrote                 the outcome appended, with memory for the bench or without
 use Rattle.std.specs.Prelude.{◌≡◌, ℕ, ◌+◌, Bool, cond, List, [], ◌∷◌, ◌++◌, Some, None, codes, Option}

@@ -1,17 +1,17 @@
 -- How a line writes a bench, and the bench that it writes, over memory of zeros. Assumes nothing.
 --
---   word_bench n a        a bench of n words and the allotment a, if both could be read
---   row_bench w n a       a bench of n bytes in rows of w, and the allotment a
---   single_in ws          the one bench that the words ws begin with
---   words_of s            how many words write that bench
---   past_bench ws         the words after the word `bench`, where they begin with it
+--   word_bench n a       a bench of n words and the allotment a, if both could be read
+--   row_bench w n a      a bench of n bytes in rows of w, and the allotment a
+--   single_in ws         the one bench that the words ws begin with
+--   words_of s           how many words write that bench
+--   past_bench ws        the words after the word `bench`, where they begin with it
 --   single s, pair s t   one bench, and two side by side
---   second_in s o ws      the first bench s and the second, with no word after it
---   joined_in s ws        what the first bench and the words after it write
---   first_in o ws         the same, where the first bench could be read
---   setup_in ws           the bench that the words ws write: one, or two side by side
---   bench_in l            the bench that the line l writes
---   opens_one s           the meaning of one bench at first
+--   second_in s o ws     the first bench s and the second, with no word after it
+--   joined_in s ws       what the first bench and the words after it write
+--   first_in o ws        the same, where the first bench could be read
+--   setup_in ws          the bench that the words ws write: one, or two side by side
+--   bench_in l           the bench that the line l writes
+--   opens_one s          the meaning of one bench at first
 --   beside m o           a bench of the meaning m with a second one beside it, if any
 --   opens s              the meaning at first of the bench that is written
 use Rattle.std.specs.Prelude.{ℕ, min, cond, List, [], length, drop, replicate, Some, None, codes, Option, ◌==◌, slice_index_or}

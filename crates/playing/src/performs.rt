@@ -10,19 +10,19 @@ use bench::faults::Fault;
 use player::pages::Page;
 use player::plays::play;
 
-fn done_or(res: Result<(), Fault>) -> Answer
-    ensures { result ≡ done_or res }
+fn done_or(outcome: Result<(), Fault>) -> Answer
+    ensures { result ≡ done_or outcome }
 {
-    match res {
+    match outcome {
         Ok(()) => Answer::Done,
         Err(fault) => Answer::Refused(fault),
     }
 }
 
-fn bit_or(res: Result<bool, Fault>) -> Answer
-    ensures { result ≡ bit_or res }
+fn bit_or(outcome: Result<bool, Fault>) -> Answer
+    ensures { result ≡ bit_or outcome }
 {
-    match res {
+    match outcome {
         Ok(bit) => Answer::Bit(bit),
         Err(fault) => Answer::Refused(fault),
     }

@@ -5,7 +5,7 @@
 --   hex_line bytes         two lower-case hexadecimal digits for each byte, and the line's end
 --   lines_to f n           the lines of f 0 to f (n - 1), one after another
 --   sealed_lines input n   a line for each of the first n blocks, encrypted by the standard under the key
---   whole n               n bytes are a key and 1 to 64 blocks
+--   whole n                n bytes are a key and 1 to 64 blocks
 --   sealed_text input      the lines of all blocks, or "refused 6" and a line's end for an input of another length
 use Rattle.std.specs.Prelude.{ℕ, zero, suc, ◌+◌, ◌-◌, ◌*◌, ◌/◌, ◌%◌, Bool, cond, ◌&&◌, List, [], ◌∷◌, ◌++◌, length, take, drop, codes, ◌==◌, nat_le}
 use Rattle.standard.specs.Kinds.{aes128, encrypted}

@@ -1,9 +1,9 @@
 -- Bits of a number. Assumes nothing.
 --
---   odd n     the lowest bit of n is set
---   bit n i   bit i of n, bit 0 the lowest
---   xor_b x y  whether two bits differ
---   byte_of σ r  the byte that the eight bits of σ from place r on make, the lowest first
+--   odd n         the lowest bit of n is set
+--   bit n i       bit i of n, bit 0 the lowest
+--   xor_b x y     whether two bits differ
+--   byte_of σ r   the byte that the eight bits of σ from place r on make, the lowest first
 use Rattle.std.specs.Prelude.{ℕ, ◌+◌, ◌/◌, ◌%◌, ◌^◌, Bool, true, false, not, map, ◌==◌}
 use Rattle.std.specs.Simd.Lanes.{mask_l}
 use Rattle.std.specs.List.{range_with_len}

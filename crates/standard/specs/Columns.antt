@@ -1,8 +1,8 @@
 -- Products of a column of four bytes with a matrix of bytes. Assumes nothing.
 --
---   entry cs i j     row i, column j of the matrix whose first row is cs, each next row the one before turned right
---   row_of cs i ..    the sum of the products of row i with the bytes of a column
---   by_columns cs xs  that matrix at each column of xs
+--   entry cs i j       row i, column j of the matrix whose first row is cs, each next row the one before turned right
+--   row_of cs i ..     the sum of the products of row i with the bytes of a column
+--   by_columns cs xs   that matrix at each column of xs
 --   mixing, unmixing the first rows of the matrices of MixColumns and InvMixColumns
 use Rattle.std.specs.Prelude.{ℕ, ◌+◌, ◌-◌, ◌%◌, List, [], ◌∷◌, bit_xor, slice_index}
 use Rattle.standard.specs.Field.{mul}

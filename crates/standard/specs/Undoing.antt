@@ -1,10 +1,10 @@
 -- The cipher and the inverse cipher undo each other, for every number of rounds, every block and all round keys. Assumes nothing.
 --
---   InvCipherUndoesCipher, CipherUndoesInvCipher      under any round keys
+--   InvCipherUndoesCipher, CipherUndoesInvCipher         under any round keys
 --   DecryptedUndoesEncrypted, EncryptedUndoesDecrypted   under the round keys of any key
---   CiphersGiveStates                                  what the four give is sixteen bytes
---   WordsExpand                                        the words of the expansion meet the standard's equations
---   RoundKeysAreBytes                                  a key of bytes has round keys of bytes
+--   CiphersGiveStates                                    what the four give is sixteen bytes
+--   WordsExpand                                          the words of the expansion meet the standard's equations
+--   RoundKeysAreBytes                                    a key of bytes has round keys of bytes
 use Rattle.std.specs.Prelude.{◌≡◌, ℕ, ◌<◌, ◌≤◌, List}
 use Rattle.standard.specs.States.{Bytes, State, RoundKeys}
 use Rattle.standard.specs.Cipher.{Cipher, InvCipher}

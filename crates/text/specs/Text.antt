@@ -1,29 +1,29 @@
 -- The text of scripts, as bytes: what is read from it and what is written to it. Assumes nothing.
 --
 --   before stop bytes   how many bytes stand before the first byte stop
---   line_of text         the first line, without the byte 10 that ends it
---   after_line text      what follows that byte
---   on_first b ls        the lines ls with the byte b in front of the first
---   lines_in text        all the lines; a text that ends with byte 10 has no empty line after that
---   from_word line       the line from its first byte other than 32 on
---   word_of line         the first word: a run of bytes other than 32, after any bytes 32
---   after_word line      what follows the first word
---   on_word b bs ws      the words ws of bs with the byte b in front of bs
---   words_in line        all the words
---   is_digit b           whether a byte is a decimal digit
---   all_digits bs        whether each byte is one
---   value_after n bs     the number that digits write after those of the number n
---   number_in word       the number that decimal digits write, below 2 ^ 64
---   hex_value b          the value of a lower-case hexadecimal digit
---   pair_value h l       the byte of two such values
---   with_first o ns      numbers with one more in front, if all were read
---   pairs_in word        the bytes that pairs of such digits write
---   bytes_in word        the same for one pair at least; no bytes for `-`
---   decimal_by k n       the last k decimal digits of n, or all where there are fewer
+--   line_of text        the first line, without the byte 10 that ends it
+--   after_line text     what follows that byte
+--   on_first b ls       the lines ls with the byte b in front of the first
+--   lines_in text       all the lines; a text that ends with byte 10 has no empty line after that
+--   from_word line      the line from its first byte other than 32 on
+--   word_of line        the first word: a run of bytes other than 32, after any bytes 32
+--   after_word line     what follows the first word
+--   on_word b bs ws     the words ws of bs with the byte b in front of bs
+--   words_in line       all the words
+--   is_digit b          whether a byte is a decimal digit
+--   all_digits bs       whether each byte is one
+--   value_after n bs    the number that digits write after those of the number n
+--   number_in word      the number that decimal digits write, below 2 ^ 64
+--   hex_value b         the value of a lower-case hexadecimal digit
+--   pair_value h l      the byte of two such values
+--   with_first o ns     numbers with one more in front, if all were read
+--   pairs_in word       the bytes that pairs of such digits write
+--   bytes_in word       the same for one pair at least; no bytes for `-`
+--   decimal_by k n      the last k decimal digits of n, or all where there are fewer
 --   decimal n           the decimal digits of n, without leading zeros
---   hex_digit d          the lower-case hexadecimal digit of a value below 16
---   hex_pairs bytes      two such digits for each byte
---   hex_text bytes       the same, and `-` for no bytes
+--   hex_digit d         the lower-case hexadecimal digit of a value below 16
+--   hex_pairs bytes     two such digits for each byte
+--   hex_text bytes      the same, and `-` for no bytes
 use Rattle.std.specs.Prelude.{ℕ, zero, suc, ◌+◌, ◌-◌, ◌*◌, ◌/◌, ◌%◌, ◌^◌, Bool, true, cond, not, ◌&&◌, List, [], ◌∷◌, ◌++◌, length, take, drop, Some, None, Option, ◌==◌, nat_eq, nat_le, nat_lt}
 use Rattle.std.specs.List.{prefix_len}
 

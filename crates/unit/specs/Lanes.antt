@@ -1,8 +1,8 @@
 -- What the registers of a lane show, as the standard's bytes, and what the three plans do to them. Assumes nothing.
 --
---   state_of m l         the block in lane l, plain
---   key_of m l           the key in lane l: round key 0, plain
---   round_shown m l n    round key n in lane l: 0 and the last are plain, those between stand in coordinates
+--   state_of m l        the block in lane l, plain
+--   key_of m l          the key in lane l: round key 0, plain
+--   round_shown m l n   round key n in lane l: 0 and the last are plain, those between stand in coordinates
 --   Expanded            scheduling: the standard's round keys of the key, in every lane
 --   Enciphered          sealing: the standard's cipher of the block under the round keys shown, in every lane
 --   Deciphered          opening: the inverse cipher
