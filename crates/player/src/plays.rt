@@ -67,7 +67,7 @@ pub fn play<B: Bench>(bench: &mut B, page: &[u8], bases: &[u16]) -> Result<(), F
     }
     for i in 0..page.kinds.len() {
         let gate = place(page.gate(i), page.sockets, bases);
-        bench.gate(gate.kind, gate.target, gate.first, gate.second)?;
+        bench.gate(gate)?;
     }
     Ok(())
 }
