@@ -70,5 +70,9 @@ gate_at kinds places at = record {
   second = pair places (6 * at + 4);
 }
 
+-- the gates of the kinds and the places of a page
+unfoldable pub gates_from : List ℕ → List ℕ → List Gate
+gates_from kinds places = map (gate_at kinds places) (range_with_len 0 (length kinds))
+
 unfoldable pub gates_of : List ℕ → List Gate
 gates_of bytes = map (gate_at (kinds_in bytes) (places_in bytes)) (range_with_len 0 (gates_in bytes))

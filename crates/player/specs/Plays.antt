@@ -1,5 +1,5 @@
 -- Plays: the questions in their order, and the gates done one after another. Assumes nothing.
-use Rattle.std.specs.Prelude.{ℕ, zero, suc, ◌+◌, ◌-◌, ◌*◌, ◌/◌, ◌%◌, Bool, cond, List, map, length, Some, None, Ok, Err, Option, Result, ◌==◌, nat_lt, slice_index}
+use Rattle.std.specs.Prelude.{ℕ, zero, suc, ◌+◌, ◌-◌, ◌*◌, ◌/◌, ◌%◌, ◌<◌, Bool, cond, List, map, length, Some, None, Ok, Err, Option, Result, ◌==◌, nat_lt, slice_index}
 use Rattle.bench.specs.declared.faults.Question.TheVariants.{Whole, Bases, Gates}
 use Rattle.bench.specs.declared.faults.Part.TheVariants.{Player, Reader}
 use Rattle.bench.specs.declared.faults.Fault.{Fault}
@@ -20,6 +20,10 @@ placed q bases g = record {
   first = register_of q bases g.first;
   second = register_of q bases g.second;
 }
+
+-- all three numbers of a gate are below n
+abbrev pub Within : ℕ → Gate → Type 0
+Within n g = (g.target < n) × ((g.first < n) × (g.second < n))
 
 abbrev pub earlier : Option ℕ → Option ℕ → Option ℕ
 earlier (Some i) o = Some i

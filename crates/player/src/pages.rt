@@ -1,20 +1,58 @@
 // A page: its sizes, and its two arrays as parts of the caller's bytes.
-ghost use Rattle.std.specs.Prelude.{◌≡◌, ℕ, ◌+◌, ◌*◌, ◌<◌, ◌≤◌, true, false, length, Ok, Err};
+ghost use Rattle.std.specs.Prelude.{◌≡◌, ℕ, ◌+◌, ◌*◌, ◌<◌, ◌≤◌, [], ◌∷◌, true, false, length, Ok, Err, MatchOption};
+ghost use Rattle.std.specs.Iterator.{at_most};
 ghost use Rattle.bench.specs.Faults.{fault};
 ghost use Rattle.bench.specs.declared.faults.Question.TheVariants.{Whole};
 ghost use Rattle.bench.specs.declared.faults.Part.TheVariants.{Reader};
-ghost use Rattle.player.specs.Pages.{kind_at, pair, sizes_fit, kinds_named, numbers_below, whole, ReadAs, gate_at};
+ghost use Rattle.player.specs.Pages.{kind_at, pair, sizes_fit, kinds_named, numbers_below, whole, ReadAs, gates_from};
 
 use bench::faults::{Fault, Part, Question};
 use bench::gates::Gate;
 use bench::kinds::Kind;
 
+// A page is whole where it is one at all: what that says of its parts stands beside them.
 #[derive(Clone, Copy)]
 pub struct Page<'a> {
     pub sockets: u16,
     pub scratch: u16,
     pub kinds: &'a [u8],
     pub places: &'a [u8],
+    ghost fits: { sizes_fit (length kinds.now) sockets scratch ≡ true },
+    ghost paired: { length places.now ≡ 6 * length kinds.now },
+    ghost numbered: { numbers_below places.now (8 * sockets + scratch) ≡ true },
+}
+
+// The gates of a page that are still to come.
+#[derive(Clone, Copy)]
+pub struct Gates<'a> {
+    kinds: &'a [u8],
+    places: &'a [u8],
+    ghost paired: { length places.now ≡ 6 * length kinds.now },
+}
+
+impl<'a> Iterator for Gates<'a> {
+    type Item = Gate;
+
+    ghost next_gives = { λ s gate t. MatchOption gate (gates_from s.kinds.now s.places.now ≡ []) (λ g. gates_from s.kinds.now s.places.now ≡ g ∷ gates_from t.kinds.now t.places.now) };
+
+    ghost remaining = { λ s. at_most (length s.kinds.now) };
+
+    fn next(&mut self) -> Option<Gate> {
+        let [kind, kinds @ ..] = self.kinds else {
+            return None;
+        };
+        let [t1, t0, a1, a0, b1, b0, places @ ..] = self.places else {
+            return None;
+        };
+        self.kinds = kinds;
+        self.places = places;
+        Some(Gate {
+            kind: kind_at(*kind),
+            target: u16::from_be_bytes([*t1, *t0]),
+            first: u16::from_be_bytes([*a1, *a0]),
+            second: u16::from_be_bytes([*b1, *b0]),
+        })
+    }
 }
 
 fn kind_at(byte: u8) -> Kind
@@ -106,15 +144,13 @@ impl<'a> Page<'a> {
         })
     }
 
-    pub(crate) fn gate(&self, at: usize) -> Gate
-        requires { (at < length self.now.kinds.now) × (length self.now.places.now ≡ 6 * length self.now.kinds.now) }
-        ensures { result ≡ gate_at self.now.kinds.now self.now.places.now at }
+    // The gates in order.
+    pub fn gates(&self) -> Gates<'a>
+        ensures { gates_from result.kinds.now result.places.now ≡ gates_from self.now.kinds.now self.now.places.now }
     {
-        Gate {
-            kind: kind_at(self.kinds[at]),
-            target: pair_at(self.places, 6 * at),
-            first: pair_at(self.places, 6 * at + 2),
-            second: pair_at(self.places, 6 * at + 4),
+        Gates {
+            kinds: self.kinds,
+            places: self.places,
         }
     }
 }
