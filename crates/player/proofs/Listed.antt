@@ -1,9 +1,11 @@
 -- The gates of a page, the first before the others. Assumes nothing.
-use Rattle.std.proofs.Common.{◌≡◌, ℕ, zero, suc, ◌+◌, ◌*◌, ◌<◌, ◌≤◌, List, [], ◌∷◌, map, length, drop, get_or, sym, refl, ap, ◌∙◌, ap₂, arith}
+use Rattle.std.proofs.Common.{◌≡◌, ℕ, zero, suc, ◌+◌, ◌*◌, ◌<◌, ◌≤◌, Bool, true, ◌&&◌, ltb, List, [], ◌∷◌, map, length, drop, get_or, sym, refl, ap, ◌∙◌, subst, ap₂, arith}
 use Rattle.std.proofs.lemmas.List.{get_or-drop}
-use Rattle.std.specs.List.{range_with_len}
+use Rattle.std.proofs.lemmas.Bool.{and_parts, ltb-true}
+use Rattle.std.specs.List.{range_with_len, list_all, AllByRecursion as All}
 use Rattle.bench.specs.declared.gates.Gate.{Gate}
-use Rattle.player.specs.Pages.{kind_at, pair, gate_at, gates_from}
+use Rattle.player.specs.Pages.{kind_at, pair, numbers_in, numbers_below, gate_at, gates_from}
+use Rattle.player.specs.Plays.{Within}
 
 module _ (k t1 t0 a1 a0 b1 b0 : ℕ) (ks ps : List ℕ) where
   abbrev kinds : List ℕ
@@ -63,3 +65,41 @@ gates_split (k ∷ ks) (x ∷ y ∷ []) p q = absurd (omega arith)
 gates_split (k ∷ ks) (x ∷ y ∷ z ∷ []) p q = absurd (omega arith)
 gates_split (k ∷ ks) (x ∷ y ∷ z ∷ u ∷ []) p q = absurd (omega arith)
 gates_split (k ∷ ks) (x ∷ y ∷ z ∷ u ∷ v ∷ []) p q = absurd (omega arith)
+
+-- where all numbers are below a bound, so are those of each gate
+module _ (bound : ℕ) where
+  abbrev low : ℕ → Bool
+  low n = ltb n bound
+
+  pub gates_within : (kinds places : List ℕ) → length places ≡ 6 * length kinds → numbers_below places bound ≡ true → All (Within bound) (gates_from kinds places)
+  unfolding numbers_below
+  gates_within [] places p h = subst (All (Within bound)) (sym (gates_none [] places (omega arith))) tt
+  gates_within (k ∷ ks) (t1 ∷ t0 ∷ a1 ∷ a0 ∷ b1 ∷ b0 ∷ ps) p h =
+      let others = numbers_in ps in
+      let t = and_parts (low (t1 * 256 + t0)) (low (a1 * 256 + a0) && (low (b1 * 256 + b0) && list_all low others)) h in
+      let a = and_parts (low (a1 * 256 + a0)) (low (b1 * 256 + b0) && list_all low others) t.1 in
+      let b = and_parts (low (b1 * 256 + b0)) (list_all low others) a.1 in
+      subst (All (Within bound)) (sym (gates_more k t1 t0 a1 a0 b1 b0 ks ps)) (
+        (ltb-true (t1 * 256 + t0) bound t.0, (ltb-true (a1 * 256 + a0) bound a.0, ltb-true (b1 * 256 + b0) bound b.0)),
+        gates_within ks ps (omega (arith, p)) b.1,
+      )
+  gates_within (k ∷ ks) [] p h = absurd (omega (arith, p))
+  gates_within (k ∷ ks) (x ∷ []) p h = absurd (omega (arith, p))
+  gates_within (k ∷ ks) (x ∷ y ∷ []) p h = absurd (omega (arith, p))
+  gates_within (k ∷ ks) (x ∷ y ∷ z ∷ []) p h = absurd (omega (arith, p))
+  gates_within (k ∷ ks) (x ∷ y ∷ z ∷ u ∷ []) p h = absurd (omega (arith, p))
+  gates_within (k ∷ ks) (x ∷ y ∷ z ∷ u ∷ v ∷ []) p h = absurd (omega (arith, p))
+
+-- the numbers of two bytes and those behind them
+pub numbers_more : (places : List ℕ) (bound : ℕ) → 2 ≤ length places
+    → numbers_below places bound ≡ (ltb (get_or places 0 0 * 256 + get_or places 1 0) bound && numbers_below (drop 2 places) bound)
+unfolding numbers_below
+numbers_more [] bound h = absurd (omega arith)
+numbers_more (x ∷ []) bound h = absurd (omega arith)
+numbers_more (x ∷ y ∷ rest) bound h = refl
+
+pub numbers_none : (places : List ℕ) (bound : ℕ) → length places < 2 → numbers_below places bound ≡ true
+unfolding numbers_below
+numbers_none [] bound h = refl
+numbers_none (x ∷ []) bound h = refl
+numbers_none (x ∷ y ∷ rest) bound h = absurd (omega arith)

@@ -1,15 +1,14 @@
 -- What an accepted play rests on, over plain values. Assumes nothing.
-use Rattle.std.proofs.Common.{◌≡◌, ℕ, zero, suc, ◌+◌, ◌-◌, ◌*◌, ◌/◌, ◌<◌, ◌≤◌, true, ltb, List, [], ◌∷◌, ◌++◌, map, length, drop, None, Ok, Err, Result, sym, refl, ap, ◌∙◌, subst, ap₂, arith}
-use Rattle.std.proofs.lemmas.Bool.{ltb-true, le-ltb, cond-true, cond-false}
+use Rattle.std.proofs.Common.{◌≡◌, ℕ, ◌-◌, ◌*◌, ◌≤◌, true, ltb, List, [], ◌∷◌, map, length, drop, None, Ok, Err, Result, sym, refl, ap, ◌∙◌, ap₂, arith}
+use Rattle.std.proofs.lemmas.Bool.{le-ltb, cond-true, cond-false}
 use Rattle.std.proofs.lemmas.List.{length-take-le, length-drop, length-map}
 use Rattle.std.proofs.lemmas.List.FromFn.{length-map-range_with_len}
-use Rattle.std.specs.List.{range_with_len, AllByRecursion as All}
+use Rattle.std.specs.List.{range_with_len}
 use Rattle.bench.specs.declared.faults.Fault.{Fault}
 use Rattle.bench.specs.Model.{Model, Memory, part, both, after, gated, gated_in}
 use Rattle.bench.specs.declared.gates.Gate.{Gate}
-use Rattle.player.specs.Pages.{whole, ReadAs, pair, gates_in, sockets_in, scratch_in, numbers_below, gate_at, gates_from, gates_of}
-use Rattle.player.specs.Plays.{Within, placed, bases_at, ask_bases, ask_gates, play_answer, ran, played, ran_in, played_in}
-use Rattle.player.proofs.Below.{every_at}
+use Rattle.player.specs.Pages.{whole, ReadAs, gates_in, sockets_in, scratch_in, gate_at, gates_from, gates_of}
+use Rattle.player.specs.Plays.{placed, bases_at, ask_bases, ask_gates, play_answer, ran, played, ran_in, played_in}
 use Rattle.player.proofs.Wholes.{page_length}
 
 abbrev pub done : Gate → Model → Model
@@ -36,33 +35,9 @@ pub done_left : (g : Gate) (m : Model) → (done g m).left ≡ m.left - 1
 unfolding gated
 done_left g m = refl
 
-module _ (kinds places : List ℕ) where
-  pub gates_count : length (gates_from kinds places) ≡ length kinds
-  unfolding gates_from
-  gates_count = length-map-range_with_len (gate_at kinds places) 0 (length kinds)
-
-  module _ (bound : ℕ) (paired : length places ≡ 6 * length kinds) (numbers : numbers_below places bound ≡ true) where
-    number_below : (j : ℕ) → j < 3 * length kinds → pair places (2 * j) < bound
-    unfolding numbers_below
-    number_below j h = ltb-true (pair places (2 * j)) bound (every_at (length places / 2) (λ j. ltb (pair places (2 * j)) bound) j numbers (omega (arith, paired)))
-
-    -- number k of gate i
-    place_below : (i k n : ℕ) → i < length kinds → k < 3 → n ≡ 2 * (3 * i + k) → pair places n < bound
-    place_below i k n h l e = subst (λ x. pair places x < bound) (sym e) (number_below (3 * i + k) (omega arith))
-
-    gates_within_from : (n i : ℕ) → i + n ≤ length kinds → All (Within bound) (map (gate_at kinds places) (range_with_len i n))
-    gates_within_from zero i h = tt
-    gates_within_from (suc n) i h = (
-      (
-        place_below i 0 (6 * i) (omega arith) (omega arith) (omega arith),
-        (place_below i 1 (6 * i + 2) (omega arith) (omega arith) (omega arith), place_below i 2 (6 * i + 4) (omega arith) (omega arith) (omega arith)),
-      ),
-      gates_within_from n (i + 1) (omega arith),
-    )
-
-    pub gates_within : All (Within bound) (gates_from kinds places)
-    unfolding gates_from
-    gates_within = gates_within_from (length kinds) 0 (omega arith)
+pub gates_count : (kinds places : List ℕ) → length (gates_from kinds places) ≡ length kinds
+unfolding gates_from
+gates_count kinds places = length-map-range_with_len (gate_at kinds places) 0 (length kinds)
 
 module _ (bytes : List ℕ) (q c : ℕ) (kinds places : List ℕ) (w : whole bytes ≡ true) (r : ReadAs bytes q c kinds places) where
   pub kinds_count : length kinds ≡ gates_in bytes

@@ -1,10 +1,11 @@
 // A page: its sizes, and its two arrays as parts of the caller's bytes.
-ghost use Rattle.std.specs.Prelude.{◌≡◌, ℕ, ◌+◌, ◌*◌, ◌<◌, ◌≤◌, [], ◌∷◌, true, false, length, Ok, Err, MatchOption};
+ghost use Rattle.std.specs.Prelude.{◌≡◌, ℕ, ◌+◌, ◌*◌, ◌<◌, ◌≤◌, [], ◌∷◌, true, false, length, Ok, Err, MatchOption, nat_le};
 ghost use Rattle.std.specs.Iterator.{at_most};
+ghost use Rattle.std.specs.List.{list_all};
 ghost use Rattle.bench.specs.Faults.{fault};
 ghost use Rattle.bench.specs.declared.faults.Question.TheVariants.{Whole};
 ghost use Rattle.bench.specs.declared.faults.Part.TheVariants.{Reader};
-ghost use Rattle.player.specs.Pages.{kind_at, pair, sizes_fit, kinds_named, numbers_below, whole, ReadAs, gates_from};
+ghost use Rattle.player.specs.Pages.{kind_at, sizes_fit, numbers_below, whole, ReadAs, gates_from};
 
 use bench::faults::{Fault, Part, Question};
 use bench::gates::Gate;
@@ -68,13 +69,6 @@ fn kind_at(byte: u8) -> Kind
     }
 }
 
-fn pair_at(bytes: &[u8], at: usize) -> u16
-    requires { at + 1 < length bytes.now }
-    ensures { result ≡ pair bytes.now at }
-{
-    bytes[at] as u16 * 256 + bytes[at + 1] as u16
-}
-
 fn sizes_fit(gates: u16, sockets: u16, scratch: u16) -> bool
     ensures { result ≡ sizes_fit gates sockets scratch }
 {
@@ -82,23 +76,20 @@ fn sizes_fit(gates: u16, sockets: u16, scratch: u16) -> bool
 }
 
 fn kinds_named(kinds: &[u8]) -> bool
-    ensures { result ≡ kinds_named kinds.now }
+    ensures { result ≡ list_all (λ k. nat_le k 5) kinds.now }
 {
-    for kind in kinds {
-        if *kind > 5 {
-            return false;
-        }
-    }
-    true
+    kinds.iter().all(|kind| *kind <= 5)
 }
 
 fn numbers_below(places: &[u8], bound: u16) -> bool
     ensures { result ≡ numbers_below places.now bound }
 {
-    for j in 0..places.len() / 2 {
-        if pair_at(places, 2 * j) >= bound {
+    let mut places = places;
+    while let [high, low, rest @ ..] = places {
+        if u16::from_be_bytes([*high, *low]) >= bound {
             return false;
         }
+        places = rest;
     }
     true
 }
@@ -120,9 +111,9 @@ impl<'a> Page<'a> {
         let [g1, g0, q1, q0, c1, c0, rest @ ..] = bytes else {
             return Err(not_whole());
         };
-        let gates = *g1 as u16 * 256 + *g0 as u16;
-        let sockets = *q1 as u16 * 256 + *q0 as u16;
-        let scratch = *c1 as u16 * 256 + *c0 as u16;
+        let gates = u16::from_be_bytes([*g1, *g0]);
+        let sockets = u16::from_be_bytes([*q1, *q0]);
+        let scratch = u16::from_be_bytes([*c1, *c0]);
         if !sizes_fit(gates, sockets, scratch) {
             return Err(not_whole());
         }

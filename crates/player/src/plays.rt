@@ -40,7 +40,11 @@ impl<'a> Bases<'a> {
             return Err(misfit(17));
         }
         for (i, base) in bases.iter().enumerate() {
-            let span = if i < page.sockets as usize { 8 } else { page.scratch };
+            let span = if i < page.sockets as usize {
+                8
+            } else {
+                page.scratch
+            };
             if *base as u32 + span as u32 > registers as u32 {
                 return Err(misfit(i as u64));
             }

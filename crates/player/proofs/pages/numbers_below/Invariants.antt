@@ -1,6 +1,9 @@
-use Rattle.std.proofs.Common.{ℕ, ◌*◌, ◌<◌}
-use Rattle.player.specs.Pages.{pair}
+use Rattle.std.proofs.Common.{◌≡◌, length}
+use Rattle.player.specs.Pages.{numbers_below}
 use Rattle.player.proofs.pages.numbers_below.Given as goal
 
-abbrev pub invariant-loop-j : goal.invariant-loop-j
-invariant-loop-j l = (k : ℕ) → k < l.j → pair l.places (2 * k) < l.bound
+abbrev pub invariant-loop-places : goal.invariant-loop-places
+invariant-loop-places l = numbers_below l.places l.bound ≡ numbers_below l.initial.places l.bound
+
+abbrev pub decreases-loop-places : goal.decreases-loop-places
+decreases-loop-places l = length l.places

@@ -1,12 +1,12 @@
-use Rattle.std.proofs.Common.{◌≡◌, ℕ, ◌+◌, ◌*◌, ◌-◌, ◌≤◌, true, List, map, length, Ok, sym, refl, ap, ◌∙◌, subst, ap₂, arith, rules}
+use Rattle.std.proofs.Common.{◌≡◌, ℕ, ◌+◌, ◌*◌, map, length, Ok, sym, refl, ap, ◌∙◌, subst, arith}
 use Rattle.std.specs.List.{AllByRecursion as All}
 use Rattle.bench.specs.Benches.{meaning}
-use Rattle.bench.specs.Model.{Model, Memory, gate_answer}
-use Rattle.bench.specs.declared.gates.Gate.{Gate}
+use Rattle.bench.specs.Model.{Model, gate_answer}
 use Rattle.bench.proofs.Accepts.{gate_accepted}
 use Rattle.player.specs.Pages.{gates_from, numbers_below}
-use Rattle.player.specs.Plays.{Within, placed, ran, ran_in, played, played_in}
-use Rattle.player.proofs.Played.{done, done_in, done_left, done_registers, gates_count, gates_within, play_done, play_in_done}
+use Rattle.player.specs.Plays.{Within, placed, ran, ran_in}
+use Rattle.player.proofs.Listed.{gates_within}
+use Rattle.player.proofs.Played.{done, done_in, done_left, done_registers, gates_count, play_done, play_in_done}
 use Rattle.player.proofs.plays.play.Goals as goal
 
 pub loop-gate-init : goal.loop-gate-init
@@ -17,7 +17,7 @@ loop-gate-init g c =
     let gates = ap (λ x. gates_from x.kinds.now x.places.now) c.into_iter-gate-iterator.ensures.into_iter_gives ∙ c.gates-gate-items.ensures in
     let bound : 8 * p.sockets + p.scratch ≡ 8 * b.sockets + b.scratch = omega (arith, kept.0, kept.1.0) in
     let numbers = ap (numbers_below p.places.now) (sym bound) ∙ p.numbered in
-    let within = gates_within p.kinds.now p.places.now (8 * b.sockets + b.scratch) p.paired numbers in (
+    let within = gates_within (8 * b.sockets + b.scratch) p.kinds.now p.places.now p.paired numbers in (
       refl,
       (
         refl,

@@ -1,4 +1,4 @@
-use Rattle.std.proofs.Common.{◌∷◌, ◌∙◌, sym, arith}
+use Rattle.std.proofs.Common.{◌∷◌, ◌∙◌, sym}
 use Rattle.std.proofs.lemmas.List.{take_rest}
 use Rattle.player.specs.Pages.{gates_from}
 use Rattle.player.proofs.Listed.{gates_none, gates_split}

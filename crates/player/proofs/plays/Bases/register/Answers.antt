@@ -1,4 +1,4 @@
-use Rattle.std.proofs.Common.{◌∙◌, sym, arith, rules}
+use Rattle.std.proofs.Common.{arith, rules}
 use Rattle.player.proofs.Places.{bases_count, register_low, register_high, register_below}
 use Rattle.player.proofs.plays.Bases.register.Goals as goal
 
