@@ -13,6 +13,8 @@ use Rattle.bench.specs.declared.faults.Fault.{Fault}
 use Rattle.bench.specs.Faults.{fault}
 use Rattle.bench.specs.Model.{Model}
 use Rattle.plans.specs.declared.plays.Play.{Play}
+use Rattle.plans.specs.declared.tables.Plan.{Plan}
+use Rattle.plans.specs.declared.tables.Plan.TheVariants.{Schedule, Seal, Open}
 use Rattle.plans.specs.Layout.{at, free, room}
 use Rattle.plans.specs.Plays.{planned, plan_gates}
 use Rattle.plans.specs.Plans.{stages_to}
@@ -60,3 +62,9 @@ abbrev pub Opens : KeyKind → Model → Model → Type 0
 Opens κ m m' = (l : ℕ) → l < m.lanes
     → (state_of (lane_of m' l) ≡ InvCipher (rounds κ) (state_of (lane_of m l)) (keys_of κ (lane_of m l)))
     × ((r : ℕ) → at 16 ≤ r → r < at (free κ) → m'.bit r l ≡ m.bit r l)
+
+-- what the three plans do
+abbrev pub Does : KeyKind → Plan → Model → Model → Type 0
+Does κ Schedule = Schedules κ
+Does κ Seal = Seals κ
+Does κ Open = Opens κ

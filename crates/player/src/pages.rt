@@ -56,17 +56,11 @@ impl<'a> Iterator for Gates<'a> {
     }
 }
 
+// The kind of a number; a page that is whole has none above 5.
 fn kind_at(byte: u8) -> Kind
     ensures { result ≡ kind_at byte }
 {
-    match byte {
-        0 => Kind::Xor,
-        1 => Kind::And,
-        2 => Kind::Or,
-        3 => Kind::Xnor,
-        4 => Kind::Nand,
-        _ => Kind::Nor,
-    }
+    Kind::try_from(byte).unwrap_or(Kind::Nor)
 }
 
 fn sizes_fit(gates: u16, sockets: u16, scratch: u16) -> bool
