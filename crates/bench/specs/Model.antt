@@ -1,6 +1,7 @@
 -- The whole meaning of a bench, and what its calls answer and leave. Assumes nothing.
 use Rattle.std.specs.Prelude.{◌≡◌, ℕ, ◌+◌, ◌-◌, ◌≤◌, min, Bool, false, cond, ◌&&◌, List, Ok, Err, Result, ◌==◌, nat_lt}
 use Rattle.bench.specs.declared.faults.Question.TheVariants.{Register, Lane, Gates}
+use Rattle.bench.specs.declared.faults.Part.{Part}
 use Rattle.bench.specs.declared.faults.Part.TheVariants.{Bench}
 use Rattle.bench.specs.declared.faults.Fault.{Fault}
 use Rattle.bench.specs.declared.kinds.Kind.{Kind}
@@ -40,6 +41,10 @@ within n r next = cond (nat_lt r n) next (Err (fault Register Bench r))
 -- the same of the lane l
 abbrev pub in_lane : {X : Type 0} → ℕ → ℕ → Result X Fault → Result X Fault
 in_lane n l next = cond (nat_lt l n) next (Err (fault Lane Bench l))
+
+-- so many gates for a part, where so many are left
+abbrev pub gates_answer : Part → ℕ → ℕ → Result (Unit {0}) Fault
+gates_answer who needed left = cond (nat_lt left needed) (Err (fault Gates who (needed - left))) (Ok tt)
 
 abbrev pub spot_answer : ℕ → ℕ → ℕ → ℕ → Result (Unit {0}) Fault
 spot_answer registers lanes r l = within registers r (in_lane lanes l (Ok tt))

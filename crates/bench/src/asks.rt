@@ -1,6 +1,6 @@
 // The questions that every bench asks of a call, in their order, by its registers, lanes and gates left.
-ghost use Rattle.std.specs.Prelude.{◌≡◌, ◌<◌, Ok, OnOk};
-ghost use Rattle.bench.specs.Model.{within, spot_answer, step_answer};
+ghost use Rattle.std.specs.Prelude.{◌≡◌, ◌<◌, ◌≤◌, Ok, OnOk};
+ghost use Rattle.bench.specs.Model.{within, gates_answer, spot_answer, step_answer};
 
 use crate::faults::{Fault, Part};
 use crate::gates::Gate;
@@ -13,6 +13,18 @@ fn ask_register(registers: u16, register: u16) -> Result<(), Fault>
         Ok(())
     } else {
         Err(Fault::register(register))
+    }
+}
+
+// Whether so many gates are left.
+pub fn ask_gates(part: Part, needed: u32, left: u32) -> Result<(), Fault>
+    ensures answer { result ≡ gates_answer part needed left }
+    ensures has { OnOk result (needed ≤ left) }
+{
+    if left < needed {
+        Err(Fault::gates(part, needed - left))
+    } else {
+        Ok(())
     }
 }
 
@@ -37,9 +49,5 @@ pub(crate) fn ask_gate(registers: u16, left: u32, gate: Gate) -> Result<(), Faul
     ask_register(registers, gate.target)?;
     ask_register(registers, gate.first)?;
     ask_register(registers, gate.second)?;
-    if left > 0 {
-        Ok(())
-    } else {
-        Err(Fault::gates(Part::Bench, 1))
-    }
+    ask_gates(Part::Bench, 1, left)
 }

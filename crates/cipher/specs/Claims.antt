@@ -7,11 +7,11 @@ use Rattle.std.specs.Prelude.{◌≡◌, ℕ, ◌+◌, ◌-◌, ◌*◌, ◌<◌
 use Rattle.standard.specs.Cipher.{state_after, Cipher, InvCipher}
 use Rattle.standard.specs.Kinds.{KeyKind, rounds, round_key}
 use Rattle.coordinates.specs.Coordinates.{to_coordinates}
-use Rattle.bench.specs.declared.faults.Question.TheVariants.{Size, Gates}
+use Rattle.bench.specs.declared.faults.Question.TheVariants.{Size}
 use Rattle.bench.specs.declared.faults.Part.TheVariants.{Unit as UnitPart}
 use Rattle.bench.specs.declared.faults.Fault.{Fault}
 use Rattle.bench.specs.Faults.{fault}
-use Rattle.bench.specs.Model.{Model}
+use Rattle.bench.specs.Model.{Model, gates_answer}
 use Rattle.plans.specs.declared.plays.Play.{Play}
 use Rattle.plans.specs.declared.tables.Plan.{Plan}
 use Rattle.plans.specs.declared.tables.Plan.TheVariants.{Schedule, Seal, Open}
@@ -28,7 +28,7 @@ sized κ registers lanes = nat_le (room κ) registers && (nat_le 1 lanes && nat_
 abbrev pub plan_answer : List ℕ → KeyKind → List Play → Model → Result (Unit {0}) Fault
 plan_answer inv κ plan m =
     cond (sized κ m.registers m.lanes)
-    (cond (nat_lt m.left (plan_gates inv plan)) (Err (fault Gates UnitPart (plan_gates inv plan - m.left))) (Ok tt))
+    (gates_answer UnitPart (plan_gates inv plan) m.left)
     (Err (fault Size UnitPart 0))
 
 abbrev pub Given : (Model → Model → Type 0) → Result (Unit {0}) Fault → Model → Model → Type 0

@@ -8,6 +8,7 @@ ghost use Rattle.plans.specs.Plays.{planned, planned_in, plan_gates};
 ghost use Rattle.plans.specs.Plans.{plays_of};
 ghost use Rattle.cipher.specs.Claims.{sized as sized_by, plan_answer, Given, Fallen, StagesStand, Does};
 
+use bench::asks::ask_gates;
 use bench::benches::Bench;
 use bench::faults::{Fault, Part, Question};
 use plans::plays::own_inverter;
@@ -37,10 +38,6 @@ pub fn run<B: Bench>(bench: &mut B, plan: Plan) -> Result<(), Fault>
             place: 0,
         });
     }
-    let needed = plan.gates();
-    let left = bench.left();
-    if left < needed {
-        return Err(Fault::gates(Part::Unit, needed - left));
-    }
+    ask_gates(Part::Unit, plan.gates(), bench.left())?;
     play_plan(bench, own_inverter(), plan.plays())
 }

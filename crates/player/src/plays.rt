@@ -6,6 +6,7 @@ ghost use Rattle.bench.specs.Model.{after};
 ghost use Rattle.player.specs.Plays.{Within, register_of, placed, bases_at, ask_bases, play_answer, played, played_in};
 
 use crate::pages::Page;
+use bench::asks::ask_gates;
 use bench::benches::Bench;
 use bench::faults::{Fault, Part, Question};
 use bench::gates::Gate;
@@ -92,11 +93,7 @@ pub fn play<B: Bench>(bench: &mut B, page: &[u8], bases: &[u16]) -> Result<(), F
 {
     let page = Page::read(page)?;
     let bases = Bases::fitting(&page, bench.registers(), bases)?;
-    let needed = page.kinds.len() as u32;
-    let left = bench.left();
-    if left < needed {
-        return Err(Fault::gates(Part::Player, needed - left));
-    }
+    ask_gates(Part::Player, page.kinds.len() as u32, bench.left())?;
     for gate in page.gates() {
         bench.gate(bases.place(gate))?;
     }

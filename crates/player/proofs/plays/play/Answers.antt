@@ -23,7 +23,7 @@ loop-gate-init g c =
         refl,
         (
           subst (All (Within (8 * b.sockets + b.scratch))) (sym gates) within,
-          (omega (arith, ap length gates, gates_count p.kinds.now p.places.now), sym c.registers.ensures ∙ sym kept.1.1.0),
+          (omega (arith, ap length gates, gates_count p.kinds.now p.places.now, c.in_ok-ask_gates.ensures.has, c.left.ensures), sym c.registers.ensures ∙ sym kept.1.1.0),
         ),
       ),
     )
