@@ -3,3 +3,4 @@ pub mod Numbers
 pub mod Pairs
 pub mod Lines
 pub mod Words
+pub mod Scans
