@@ -1,10 +1,6 @@
 -- What the questions give. Assumes nothing.
-use Rattle.std.proofs.Common.{◌≡◌, ℕ, ◌-◌, ◌<◌, ◌≤◌, Bool, true, false, ◌&&◌, leb, List, Ok, Err, sym, refl, ap, ◌∙◌, ap₂, arith}
-use Rattle.std.proofs.lemmas.Bool.{and_parts, leb-true, lt-ltb, le-ltb}
-use Rattle.bench.specs.declared.faults.Fault.{Fault}
-use Rattle.bench.specs.declared.faults.Question.TheVariants.{Size, Gates}
-use Rattle.bench.specs.declared.faults.Part.TheVariants.{Unit as UnitPart}
-use Rattle.bench.specs.Faults.{fault}
+use Rattle.std.proofs.Common.{◌≡◌, ℕ, ◌≤◌, Bool, true, ◌&&◌, leb, List, Ok, sym, refl, ◌∙◌, ap₂, arith}
+use Rattle.std.proofs.lemmas.Bool.{and_parts, leb-true, le-ltb}
 use Rattle.bench.specs.Model.{Model}
 use Rattle.plans.specs.declared.plays.Play.{Play}
 use Rattle.standard.specs.Kinds.{KeyKind}

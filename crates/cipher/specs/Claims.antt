@@ -3,7 +3,7 @@
 --   sized κ R L      a bench of R registers and L lanes has the size for keys of kind κ
 --   plan_answer      the answer of a call that plays a plan: is the size right, and are enough gates left
 --   Given P r m m'   P m m', where the call was accepted; a refused one alters nothing
-use Rattle.std.specs.Prelude.{◌≡◌, ℕ, ◌+◌, ◌-◌, ◌*◌, ◌<◌, ◌≤◌, Bool, cond, ◌&&◌, List, map, Ok, Err, Result, nat_le, nat_lt}
+use Rattle.std.specs.Prelude.{◌≡◌, ℕ, ◌+◌, ◌*◌, ◌<◌, ◌≤◌, Bool, cond, ◌&&◌, List, map, Ok, Err, Result, nat_le}
 use Rattle.standard.specs.Cipher.{state_after, Cipher, InvCipher}
 use Rattle.standard.specs.Kinds.{KeyKind, rounds, round_key}
 use Rattle.coordinates.specs.Coordinates.{to_coordinates}

@@ -1,8 +1,7 @@
-use Rattle.std.proofs.Common.{◌≡◌, ◌+◌, ◌≤◌, true, List, Ok, sym, refl, ap, ◌∙◌, subst, arith}
+use Rattle.std.proofs.Common.{◌≡◌, ◌+◌, ◌≤◌, true, Ok, sym, ap, ◌∙◌, subst, arith}
 use Rattle.standard.specs.Kinds.{aes128}
 use Rattle.bench.specs.Benches.{meaning}
 use Rattle.bench.specs.Model.{Model, after}
-use Rattle.plans.specs.declared.plays.Play.{Play}
 use Rattle.plans.specs.Pages.{own_inverter}
 use Rattle.plans.specs.Plays.{plan_gates, planned, planned_in, fit, do_play, do_play_in, plays_answer, carried}
 use Rattle.plans.specs.Plans.{plays_of}
@@ -10,7 +9,7 @@ use Rattle.plans.proofs.Counts.{own_whole, plays_fit}
 use Rattle.plans.proofs.Accepted.{fit_more, plan_answer_lem, plan_leaves, plan_beneath, plan_falls}
 use Rattle.circuit.proofs.Inverter.{own_inverts}
 use Rattle.cipher.specs.Claims.{Given, Fallen, Does}
-use Rattle.cipher.proofs.Asked.{told_size, told_room, told_gates, told_accept}
+use Rattle.cipher.proofs.Asked.{told_room, told_accept}
 use Rattle.cipher.proofs.Stood.{stages_stand, does, given_from}
 use Rattle.cipher.proofs.calls.run.Goals as goal
 
