@@ -15,7 +15,8 @@ use plans::plays::own_inverter;
 use plans::runs::play_plan;
 use plans::tables::{Plan, least_registers};
 
-fn sized(registers: u16, lanes: u16) -> bool
+// Whether so many registers and lanes are enough, and not too many.
+pub fn sized(registers: u16, lanes: u16) -> bool
     ensures { result ≡ sized_by aes128 registers lanes }
 {
     registers >= least_registers() && lanes >= 1 && lanes <= 128

@@ -15,7 +15,7 @@ ghost use Rattle.unit.specs.Answers.{unit_fault, ask, fits, enough, naming, plac
 use bench::asks::ask_gates;
 use bench::benches::Bench;
 use bench::faults::{Fault, Part, Question};
-use cipher::calls::run;
+use cipher::calls::{run, sized};
 use lane::{clear_lane, place_bytes, read_bytes};
 use lanetable::records::{KeyState, LaneRecord};
 use lanetable::table::LaneTable;
@@ -26,8 +26,6 @@ const STATE: u16 = 0;
 const KEY: u16 = 128;
 
 const SCRATCH: u16 = 1_536;
-
-const ROOM: u16 = 2_048;
 
 #[derive(Drop)]
 pub struct CipherUnit<B> {
@@ -76,8 +74,7 @@ impl<B: Bench> CipherUnit<B> {
     fn ready(&self) -> Result<(), Fault>
         ensures { result ≡ given tt (ask (fits (shape_of B.Bench self.now)) (unit_fault Size 0) None) }
     {
-        let lanes = self.bench.lanes();
-        if self.bench.registers() < ROOM || lanes < 1 || lanes > 128 {
+        if !sized(self.bench.registers(), self.bench.lanes()) {
             return Err(refuse(Question::Size, 0));
         }
         Ok(())
