@@ -114,6 +114,7 @@ fn gate_rows(bytes: &mut [u8], row: usize, rows: usize, gate: Gate)
     requires { (rows * row ≤ length bytes.old) × ((gate.target / 8 < row) × ((gate.first / 8 < row) × (gate.second / 8 < row))) }
     ensures { bytes.new ≡ rows_done gate.kind gate.target gate.first gate.second row rows bytes.old }
 {
+    // by number: over `chunks_exact_mut` the loop's proof stayed open, as what the rows hold then is known chunk by chunk
     for lane in 0..rows {
         gate_row(bytes, lane * row, gate);
     }

@@ -82,6 +82,7 @@ fn lay<B: Bench, S: Bits>(
     ensures beneath { B.beneath bench.new ≡ after result (laid_in base count lane (S.bits source.now) (B.beneath bench.old)) (B.beneath bench.old) }
 {
     ask_span(bench, base, count, lane)?;
+    // by number, since a bench's registers have numbers and nothing else
     for i in 0..count as u16 {
         bench.set(base + i, lane, source.bit(i))?;
     }
@@ -94,7 +95,13 @@ pub fn place_bytes<B: Bench>(bench: &mut B, base: u16, lane: u16, bytes: &[u8]) 
     ensures leaves { meaning B.Bench bench.new ≡ after result (laid base (8 * length bytes.now) lane (bits_of bytes.now) (meaning B.Bench bench.old)) (meaning B.Bench bench.old) }
     ensures beneath { B.beneath bench.new ≡ after result (laid_in base (8 * length bytes.now) lane (bits_of bytes.now) (B.beneath bench.old)) (B.beneath bench.old) }
 {
-    lay(bench, base, registers_of(bytes.len()), lane, &ByteBits(bytes))
+    lay(
+        bench,
+        base,
+        registers_of(bytes.len()),
+        lane,
+        &ByteBits(bytes),
+    )
 }
 
 // Zeroes the lane's first `count` registers.
@@ -112,6 +119,7 @@ fn byte_at<B: Bench>(bench: &B, base: u16, lane: u16) -> u8
     ensures { result ≡ byte_of (λ x. (B.shows bench.now).bit x lane) base }
 {
     let mut byte = 0u8;
+    // no fold: that the sum fits a byte needs the loop's invariant, and the closure of a fold has none
     for i in (0..8u16).rev() {
         byte = 2 * byte + bit_at(bench, base + i, lane) as u8;
     }

@@ -8,7 +8,8 @@ use crate::pages::{
     RCON_6, RCON_7, RCON_8, RCON_9, RCON_10, SUM, UNAFFINE, UNMIX,
 };
 
-// One base for each socket and one for the scratch.
+// A page and its bases: one for each socket and one for the scratch. The cases stay apart, those of the round constants
+// too: each page has as many bases as its type says, and its own array of bytes.
 #[derive(Clone, Copy)]
 pub enum Play {
     Add([u16; 3]),

@@ -2,6 +2,9 @@
 use Rattle.std.proofs.Common.{◌≡◌, ℕ, zero, suc, ◌+◌, ◌*◌, ◌<◌, ◌≤◌, Bool, true, ◌&&◌, ltb, List, [], ◌∷◌, map, length, drop, get_or, sym, refl, ap, ◌∙◌, subst, ap₂, arith}
 use Rattle.std.proofs.lemmas.List.{get_or-drop}
 use Rattle.std.proofs.lemmas.Bool.{and_parts, ltb-true}
+use Rattle.std.specs.Int.{from_be_bytes}
+use Rattle.std.specs.Simd.{first_chunks}
+use mir.Syntax.{w16}
 use Rattle.std.specs.List.{range_with_len, list_all, AllByRecursion as All}
 use Rattle.bench.specs.declared.gates.Gate.{Gate}
 use Rattle.player.specs.Pages.{kind_at, pair, numbers_in, numbers_below, gate_at, gates_from}
@@ -90,16 +93,12 @@ module _ (bound : ℕ) where
   gates_within (k ∷ ks) (x ∷ y ∷ z ∷ u ∷ []) p h = absurd (omega (arith, p))
   gates_within (k ∷ ks) (x ∷ y ∷ z ∷ u ∷ v ∷ []) p h = absurd (omega (arith, p))
 
--- the numbers of two bytes and those behind them
-pub numbers_more : (places : List ℕ) (bound : ℕ) → 2 ≤ length places
-    → numbers_below places bound ≡ (ltb (get_or places 0 0 * 256 + get_or places 1 0) bound && numbers_below (drop 2 places) bound)
-unfolding numbers_below
-numbers_more [] bound h = absurd (omega arith)
-numbers_more (x ∷ []) bound h = absurd (omega arith)
-numbers_more (x ∷ y ∷ rest) bound h = refl
-
-pub numbers_none : (places : List ℕ) (bound : ℕ) → length places < 2 → numbers_below places bound ≡ true
-unfolding numbers_below
-numbers_none [] bound h = refl
-numbers_none (x ∷ []) bound h = refl
-numbers_none (x ∷ y ∷ rest) bound h = absurd (omega arith)
+-- the numbers, in chunks of two bytes
+pub chunks_below : (bound n : ℕ) (places : List ℕ) → 2 * n ≤ length places → length places < 2 * n + 2
+    → list_all (λ number. ltb (from_be_bytes w16 number) bound) (first_chunks 2 n places) ≡ list_all (λ number. ltb number bound) (numbers_in places)
+chunks_below bound zero [] p q = refl
+chunks_below bound zero (x ∷ []) p q = refl
+chunks_below bound zero (x ∷ y ∷ rest) p q = absurd (omega arith)
+chunks_below bound (suc n) [] p q = absurd (omega arith)
+chunks_below bound (suc n) (x ∷ []) p q = absurd (omega arith)
+chunks_below bound (suc n) (x ∷ y ∷ rest) p q = ap (λ b. ltb (x * 256 + y) bound && b) (chunks_below bound n rest (omega (arith, p)) (omega (arith, q)))

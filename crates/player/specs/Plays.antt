@@ -1,5 +1,5 @@
 -- Plays: the questions in their order, and the gates done one after another. Assumes nothing.
-use Rattle.std.specs.Prelude.{ℕ, zero, suc, ◌+◌, ◌-◌, ◌*◌, ◌/◌, ◌%◌, ◌<◌, Bool, cond, List, map, length, Some, None, Ok, Err, Option, Result, ◌==◌, nat_lt, slice_index}
+use Rattle.std.specs.Prelude.{ℕ, zero, suc, ◌+◌, ◌-◌, ◌*◌, ◌/◌, ◌%◌, ◌<◌, Bool, cond, List, map, length, Some, None, Err, Option, Result, ◌==◌, nat_lt, slice_index}
 use Rattle.bench.specs.declared.faults.Question.TheVariants.{Whole, Bases}
 use Rattle.bench.specs.declared.faults.Part.TheVariants.{Player, Reader}
 use Rattle.bench.specs.declared.faults.Fault.{Fault}

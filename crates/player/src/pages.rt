@@ -1,7 +1,9 @@
 // A page: its sizes, and its two arrays as parts of the caller's bytes.
-ghost use Rattle.std.specs.Prelude.{◌≡◌, ℕ, ◌+◌, ◌*◌, ◌<◌, ◌≤◌, [], ◌∷◌, true, false, length, Ok, Err, MatchOption, nat_le};
+ghost use Rattle.std.specs.Prelude.{◌≡◌, ℕ, ◌+◌, ◌*◌, ◌<◌, ◌≤◌, [], ◌∷◌, true, false, length, Ok, Err, MatchOption, nat_le, nat_lt};
+ghost use Rattle.std.specs.Int.{from_be_bytes};
 ghost use Rattle.std.specs.Iterator.{at_most};
 ghost use Rattle.std.specs.List.{list_all};
+ghost use mir.Syntax.{w16};
 ghost use Rattle.bench.specs.Faults.{fault};
 ghost use Rattle.bench.specs.declared.faults.Question.TheVariants.{Whole};
 ghost use Rattle.bench.specs.declared.faults.Part.TheVariants.{Reader};
@@ -75,17 +77,18 @@ fn kinds_named(kinds: &[u8]) -> bool
     kinds.iter().all(|kind| *kind <= 5)
 }
 
+// Whether the numbers, high byte first, are all below the bound.
+fn all_below(numbers: &[[u8; 2]], bound: u16) -> bool
+    ensures { result ≡ list_all (λ n. nat_lt (from_be_bytes w16 n) bound) numbers.now }
+{
+    numbers.iter().all(|n| u16::from_be_bytes(*n) < bound)
+}
+
 fn numbers_below(places: &[u8], bound: u16) -> bool
     ensures { result ≡ numbers_below places.now bound }
 {
-    let mut places = places;
-    while let [high, low, rest @ ..] = places {
-        if u16::from_be_bytes([*high, *low]) >= bound {
-            return false;
-        }
-        places = rest;
-    }
-    true
+    let (numbers, _) = places.as_chunks::<2>();
+    all_below(numbers, bound)
 }
 
 fn not_whole() -> Fault
