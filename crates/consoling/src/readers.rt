@@ -64,8 +64,8 @@ fn lane_alone(lane: &[u8], second: &[u8]) -> Option<usize>
     }
 }
 
-// A lane, and the bytes that are placed in it.
-fn placed(heap: Global, lane: &[u8], bytes: &[u8]) -> Result<Option<(usize, Vec<u8>)>, AllocError>
+// A lane, and the bytes that are given for it.
+fn given(heap: Global, lane: &[u8], bytes: &[u8]) -> Result<Option<(usize, Vec<u8>)>, AllocError>
     ensures { IfOk result (λ o. option_map (λ p. (p.0, vec_items p.1)) o ≡ option_zip (number_in lane.now) (bytes_in bytes.now)) }
 {
     let Some(lane) = lane_number(lane) else {
@@ -95,8 +95,8 @@ fn call_of(
     ensures { IfOk result (λ o. option_map asked o ≡ call_of verb first.now second.now) }
 {
     Ok(match verb {
-        Verb::Key => placed(heap, first, second)?.map(|(lane, bytes)| Call::PlaceKey(lane, bytes)),
-        Verb::Block => placed(heap, first, second)?.map(|(lane, bytes)| Call::PlaceBlock(
+        Verb::Key => given(heap, first, second)?.map(|(lane, bytes)| Call::PlaceKey(lane, bytes)),
+        Verb::Block => given(heap, first, second)?.map(|(lane, bytes)| Call::PlaceBlock(
             lane, bytes,
         )),
         Verb::Clear => lane_alone(first, second).map(Call::Clear),
