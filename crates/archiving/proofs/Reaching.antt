@@ -4,7 +4,8 @@ use Rattle.std.proofs.lemmas.List.{length-take-le, length-drop, take-append-drop
 use Rattle.plans.specs.declared.plays.Play.{Play}
 use Rattle.archiving.specs.Lines.{play_line}
 use Rattle.archiving.specs.Listings.{play_lines}
-use Rattle.archiving.specs.Parts.{Holds, Extends, Reached, lines_of, between}
+use Rattle.archiving.specs.declared.cursors.Listing.{Listing}
+use Rattle.archiving.specs.Parts.{Holds, Extends, Reached, Listed, lines_of, between}
 use Rattle.archiving.proofs.Held.{extends_then, extends_from, extends_none}
 
 pub holds_lines : (i : ℕ) (ps : List Play) → Holds (lines_of i ps) (play_lines i ps)
@@ -75,3 +76,22 @@ reached_all plan b u v w p e =
       lines = (play_lines b (drop b plan), e, subst (λ (ps : List Play). Holds (lines_of b (drop b ps)) (play_lines b (drop b plan))) same (holds_lines b (drop b plan)));
     } in
     subst (λ (ps : List Play). Extends (lines_of 0 ps) u w) (sym same) (reached_then plan 0 b n u v w p rest).lines
+
+-- ---- a listing
+
+pub listed_none : (x : Listing) (u : List ℕ) → Listed x x u u
+listed_none x u = record { plan = refl; plays = reached_none x.plan.now x.at u x.within }
+
+pub listed_then : (x y z : Listing) (u v w : List ℕ) → Listed x y u v → Listed y z v w → Listed x z u w
+listed_then x y z u v w p q = record {
+  plan = q.plan ∙ p.plan;
+  plays = reached_then x.plan.now x.at y.at z.at u v w p.plays (subst (λ (ps : List Play). Reached ps y.at v w z.at) p.plan q.plays);
+}
+
+pub listed_under : (x y : Listing) (u v w : List ℕ) → Extends [] u v → Listed x y v w → Listed x y u w
+listed_under x y u v w p q = record { plan = q.plan; plays = reached_under x.plan.now x.at y.at u v w p q.plays }
+
+pub listed_all : (x y : Listing) (plan : List Play) (u v w : List ℕ) → x.plan.now ≡ plan → x.at ≡ 0 → Listed x y u v → w ≡ v ++ play_lines y.at (drop y.at y.plan.now) → Extends (lines_of 0 plan) u w
+listed_all x y plan u v w e z p q =
+    subst (λ (ps : List Play). Extends (lines_of 0 ps) u w) e
+    (reached_all x.plan.now y.at u v w (subst (λ n. Reached x.plan.now n u v y.at) z p.plays) (q ∙ ap (λ (ps : List Play). v ++ play_lines y.at (drop y.at ps)) p.plan))

@@ -5,7 +5,7 @@
 --   gates_text bytes    the sizes and the gates of a page, given as bytes
 --   play_lines i ps     a line for each play; the first has the index i
 use Rattle.std.specs.Prelude.{ℕ, ◌+◌, ◌*◌, Bool, true, false, cond, ◌&&◌, List, [], ◌∷◌, ◌++◌, map, length, codes, ◌==◌, nat_le}
-use Rattle.std.specs.List.{range_with_len}
+use Rattle.std.specs.List.{range_with_len, list_all}
 use Rattle.bench.specs.declared.gates.Gate.{Gate}
 use Rattle.bench.specs.declared.kinds.Kind.{Kind}
 use Rattle.bench.specs.declared.kinds.Kind.TheVariants.{Xor, And, Or, Xnor, Nand, Nor}
@@ -24,8 +24,7 @@ sums Nand a b = false
 sums Nor a b = false
 
 abbrev pub only_sums : List Gate → Bool
-only_sums [] = true
-only_sums (g ∷ gs) = sums g.kind g.first g.second && only_sums gs
+only_sums gs = list_all (λ (g : Gate). sums g.kind g.first g.second) gs
 
 -- from index i on, where the numbers hold us, and where no input is 1 they hold zs
 abbrev pub mask_lines : ℕ → ℕ → List ℕ → List ℕ → List Gate → List ℕ

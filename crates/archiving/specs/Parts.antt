@@ -5,8 +5,10 @@
 --   page_parts inv ps          the listings of the pages of the plays ps, where inv is the inverter
 --   every_page, every_play     the listings of all pages, and the lines of all plays of the three plans
 --   Reached plan a had all b   all is had and then more, which holds the plan's lines from index a up to index b
+--   Listed was now had all     the same of a listing, from where it was to where it now is
 use Rattle.std.specs.Prelude.{◌≡◌, ℕ, ◌+◌, ◌≤◌, List, [], ◌∷◌, ◌++◌, map, length, take, drop}
 use Rattle.plans.specs.declared.plays.Play.{Play}
+use Rattle.archiving.specs.declared.cursors.Listing.{Listing}
 use Rattle.plans.specs.Pages.{add_page, enter_page, own_inverter, mix_page, finish_page, copy_page, affine_page, sum_page, leave_page, unaffine_page, unmix_page, rcon_page}
 use Rattle.plans.specs.Plays.{page_of}
 use Rattle.standard.specs.Kinds.{aes128}
@@ -47,6 +49,11 @@ pub record Reached (plan : List Play) (a : ℕ) (had all : List ℕ) (b : ℕ) :
   pub low : a ≤ b
   pub high : b ≤ length plan
   pub lines : Extends (between plan a b) had all
+
+-- from had to all the plays of a listing's plan were written that it did not yet have
+pub record Listed (was now_is : Listing) (had all : List ℕ) : Type 0 where
+  pub plan : now_is.plan.now ≡ was.plan.now
+  pub plays : Reached was.plan.now was.at had all now_is.at
 
 -- every play of the three plans
 unfoldable pub every_play : List (List ℕ)

@@ -5,7 +5,6 @@ use bench::word::{MOST_GATES, WordBench};
 use coordinates::basis::from_coordinates;
 use lane::{place_bytes, read_bytes};
 use plans::pages::INVERT;
-use plans::plays::Play;
 use plans::runs::play_plan;
 use plans::tables::{open_plan, schedule_plan, seal_plan};
 use std::alloc::{AllocError, Global};
@@ -19,6 +18,9 @@ const BLOCK: [u8; 16] = [
 
 const ROOM: usize = 2048;
 
+// The plays of each stage of the sealing's plan.
+const STAGE_PLAYS: [usize; 11] = [32, 36, 36, 36, 36, 36, 36, 36, 36, 36, 48];
+
 // What the sixteen bytes from a register on show in lane 0.
 fn shown<B: Bench>(bench: &B, base: u16) -> Result<[u8; 16], Fault> {
     let mut bytes = [0u8; 16];
@@ -27,26 +29,7 @@ fn shown<B: Bench>(bench: &B, base: u16) -> Result<[u8; 16], Fault> {
 }
 
 fn plain(coordinates: &[u8; 16]) -> [u8; 16] {
-    let mut bytes = [0u8; 16];
-    for j in 0..16usize {
-        bytes[j] = from_coordinates(coordinates[j]);
-    }
-    bytes
-}
-
-// Stage n of the sealing's plan.
-fn stage(n: usize) -> &'static [Play] {
-    let plan = seal_plan();
-    let (first, later) = plan.split_at(plan.len().min(32));
-    if n == 0 {
-        return first;
-    }
-    let (_, from) = later.split_at(later.len().min(36 * (n.min(10) - 1)));
-    if n >= 10 {
-        return from;
-    }
-    let (these, _) = from.split_at(from.len().min(36));
-    these
+    coordinates.map(from_coordinates)
 }
 
 // The round keys as the registers show them, after the scheduling's plan.
@@ -54,8 +37,8 @@ fn round_keys<B: Bench>(bench: &mut B, key: &[u8; 16]) -> Result<[[u8; 16]; 11],
     let mut keys = [[0u8; 16]; 11];
     place_bytes(bench, 128, 0, key)?;
     play_plan(bench, &INVERT, schedule_plan())?;
-    for n in 0..11usize {
-        keys[n] = shown(bench, 128 * (n as u16 + 1))?;
+    for (n, key) in keys.iter_mut().enumerate() {
+        *key = shown(bench, 128 * (n as u16 + 1))?;
     }
     Ok(keys)
 }
@@ -64,9 +47,12 @@ fn round_keys<B: Bench>(bench: &mut B, key: &[u8; 16]) -> Result<[[u8; 16]; 11],
 fn stages<B: Bench>(bench: &mut B, block: &[u8; 16]) -> Result<[[u8; 16]; 11], Fault> {
     let mut states = [[0u8; 16]; 11];
     place_bytes(bench, 0, 0, block)?;
-    for n in 0..11usize {
-        play_plan(bench, &INVERT, stage(n))?;
-        states[n] = shown(bench, 0)?;
+    let mut rest = seal_plan();
+    for (plays, state) in STAGE_PLAYS.iter().zip(states.iter_mut()) {
+        let (stage, later) = rest.split_at(rest.len().min(*plays));
+        play_plan(bench, &INVERT, stage)?;
+        *state = shown(bench, 0)?;
+        rest = later;
     }
     Ok(states)
 }
@@ -118,8 +104,7 @@ fn push_rows(
     rows: &[[u8; 16]; 11],
     plain_first: bool,
 ) -> Result<(), AllocError> {
-    for n in 0..11usize {
-        let row = &rows[n];
+    for (n, row) in rows.iter().enumerate() {
         if n == 10 || (plain_first && n == 0) {
             push_pair(out, n as u64, row, row)?;
         } else {
@@ -149,8 +134,8 @@ fn push_worked(out: &mut Vec<u8>, worked: &Worked) -> Result<(), AllocError> {
 
 pub(crate) fn push_example(heap: Global, out: &mut Vec<u8>) -> Result<(), AllocError> {
     let mut words = vec![in heap; 0u64; ROOM]?;
-    match play_example(words.as_mut_slice()) {
-        Ok(worked) => push_worked(out, &worked),
-        Err(_) => push_text(out, b"The bench refused.\n"),
-    }
+    let Ok(worked) = play_example(words.as_mut_slice()) else {
+        return push_text(out, b"The bench refused.\n");
+    };
+    push_worked(out, &worked)
 }

@@ -2,6 +2,7 @@
 #![tactic(auto)]
 
 pub mod archives;
+mod cursors;
 mod examples;
 mod gates;
 mod lines;

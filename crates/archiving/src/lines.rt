@@ -24,6 +24,7 @@ fn spaces_before(n: u64) -> &'static [u8]
 }
 
 // A number in four places, behind a space.
+#[tactic(auto, unfolding(crate::specs::Lines::padded))]
 fn push_padded(out: &mut Vec<u8>, n: u64) -> Result<(), AllocError>
     ensures { OnOk result (out.new.items ≡ out.old.items ++ padded n) }
 {
@@ -45,6 +46,7 @@ fn kind_name(kind: Kind) -> &'static [u8]
 }
 
 // A gate's index, kind, target and operands.
+#[tactic(auto, unfolding(crate::specs::Lines::gate_text))]
 fn push_gate(out: &mut Vec<u8>, at: u64, gate: Gate) -> Result<(), AllocError>
     ensures { OnOk result (out.new.items ≡ out.old.items ++ gate_text at gate) }
 {
@@ -75,6 +77,7 @@ fn mark(blank: u64) -> &'static [u8]
 }
 
 // A gate, and which inputs its target then sums: those that turn it when they alone are 1.
+#[tactic(auto, unfolding(crate::specs::Lines::mask_line))]
 pub(crate) fn push_mask_line(
     out: &mut Vec<u8>,
     at: u64,
@@ -93,6 +96,7 @@ pub(crate) fn push_mask_line(
 }
 
 // A gate, and its target's column, given by the words of its four quarters.
+#[tactic(auto, unfolding(crate::specs::Lines::column_line))]
 pub(crate) fn push_column_line(
     out: &mut Vec<u8>,
     at: u64,
@@ -122,6 +126,7 @@ fn push_bases(out: &mut Vec<u8>, bases: &[u16]) -> Result<(), AllocError>
 }
 
 // A play's index, page and bases.
+#[tactic(auto, unfolding(crate::specs::Lines::play_line))]
 pub(crate) fn push_play(out: &mut Vec<u8>, at: u64, play: &Play) -> Result<(), AllocError>
     ensures { OnOk result (out.new.items ≡ out.old.items ++ play_line at play.now) }
 {

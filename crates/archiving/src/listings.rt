@@ -18,24 +18,16 @@ fn is_sum(gate: Gate) -> bool
     ensures { result ≡ sums gate.kind gate.first gate.second }
 {
     match gate.kind {
-        Kind::Xor => true,
+        Kind::Xor | Kind::Xnor => true,
         Kind::And => gate.first == gate.second,
-        Kind::Or => false,
-        Kind::Xnor => true,
-        Kind::Nand => false,
-        Kind::Nor => false,
+        Kind::Or | Kind::Nand | Kind::Nor => false,
     }
 }
 
 fn only_sums(gates: &[Gate]) -> bool
     ensures { result ≡ only_sums gates.now }
 {
-    for gate in gates {
-        if !is_sum(*gate) {
-            return false;
-        }
-    }
-    true
+    gates.iter().all(|gate| is_sum(*gate))
 }
 
 // The word of number n whose case i has input i alone at 1.
@@ -48,11 +40,7 @@ fn unit_word(inputs: usize, n: usize) -> u64
 fn unit_words(heap: Global, inputs: usize, count: usize) -> Result<Vec<u64>, AllocError>
     ensures { IfOk result (λ v. v.items ≡ unit_words inputs count) }
 {
-    let mut words = Vec::new(heap);
-    for n in 0..count {
-        words.push(unit_word(inputs, n))?;
-    }
-    Ok(words)
+    (0..count).map(|n| unit_word(inputs, n)).collect(heap)
 }
 
 fn filled_by(bit: u8) -> u64
@@ -81,11 +69,7 @@ fn input_word(quarter: u8, n: usize) -> u64
 fn input_words(heap: Global, quarter: u8, count: usize) -> Result<Vec<u64>, AllocError>
     ensures { IfOk result (λ v. v.items ≡ input_words quarter count) }
 {
-    let mut words = Vec::new(heap);
-    for n in 0..count {
-        words.push(input_word(quarter, n))?;
-    }
-    Ok(words)
+    (0..count).map(|n| input_word(quarter, n)).collect(heap)
 }
 
 fn push_mask_lines(
@@ -98,11 +82,10 @@ fn push_mask_lines(
     requires { sockets ≤ 8 }
     ensures { OnOk result (out.new.items ≡ out.old.items ++ mask_lines sockets 0 units.old blanks.old gates.now) }
 {
-    for i in 0..gates.len() {
-        let gate = gates[i];
-        let word = do_gate(units, gate);
-        let blank = do_gate(blanks, gate);
-        push_mask_line(out, i as u64, gate, sockets, word, blank)?;
+    for (i, gate) in gates.iter().enumerate() {
+        let word = do_gate(units, *gate);
+        let blank = do_gate(blanks, *gate);
+        push_mask_line(out, i as u64, *gate, sockets, word, blank)?;
     }
     Ok(())
 }
@@ -117,8 +100,8 @@ fn push_column_lines(
 ) -> Result<(), AllocError>
     ensures { OnOk result (out.new.items ≡ out.old.items ++ column_lines 0 w0.old w1.old w2.old w3.old gates.now) }
 {
-    for i in 0..gates.len() {
-        let gate = gates[i];
+    for (i, gate) in gates.iter().enumerate() {
+        let gate = *gate;
         let x0 = do_gate(w0, gate);
         let x1 = do_gate(w1, gate);
         let x2 = do_gate(w2, gate);
@@ -195,47 +178,30 @@ fn push_checks(
     ensures { OnOk result (out.new.items ≡ out.old.items ++ checks_text sockets scratch gates.now) }
 {
     let count = 8 * sockets as usize + scratch as usize;
-    if sockets > 8 {
-        return push_columns(heap, out, gates, count);
-    }
-    if only_sums(gates) {
+    if sockets <= 8 && only_sums(gates) {
         push_masks(heap, out, gates, sockets, count)
     } else {
         push_columns(heap, out, gates, count)
     }
 }
 
-fn push_listed(
-    heap: Global,
-    out: &mut Vec<u8>,
-    kinds: &[u8],
-    places: &[u8],
-    sockets: u16,
-    scratch: u16,
-) -> Result<(), AllocError>
-    requires { length places.now ≡ 6 * length kinds.now }
-    ensures { OnOk result (out.new.items ≡ out.old.items ++ listed_text kinds.now places.now sockets scratch) }
+fn push_listed(heap: Global, out: &mut Vec<u8>, page: &Page<'_>) -> Result<(), AllocError>
+    requires { length page.now.places.now ≡ 6 * length page.now.kinds.now }
+    ensures { OnOk result (out.new.items ≡ out.old.items ++ listed_text page.now.kinds.now page.now.places.now page.now.sockets page.now.scratch) }
 {
-    let gates = list_gates(heap, kinds, places)?;
-    push_sizes(out, kinds.len(), sockets, scratch)?;
-    push_checks(heap, out, gates.as_slice(), sockets, scratch)
+    let gates = list_gates(heap, page.kinds, page.places)?;
+    push_sizes(out, page.kinds.len(), page.sockets, page.scratch)?;
+    push_checks(heap, out, gates.as_slice(), page.sockets, page.scratch)
 }
 
 // The sizes of a page and its gates, each with its check.
 pub fn push_gates(heap: Global, out: &mut Vec<u8>, bytes: &[u8]) -> Result<(), AllocError>
     ensures { OnOk result (out.new.items ≡ out.old.items ++ gates_text bytes.now) }
 {
-    match Page::read(bytes) {
-        Ok(page) => push_listed(
-            heap,
-            out,
-            page.kinds,
-            page.places,
-            page.sockets,
-            page.scratch,
-        ),
-        Err(_) => push_text(out, b"These bytes are no whole page.\n"),
-    }
+    let Ok(page) = Page::read(bytes) else {
+        return push_text(out, b"These bytes are no whole page.\n");
+    };
+    push_listed(heap, out, &page)
 }
 
 // A line for each play from index `from` on.

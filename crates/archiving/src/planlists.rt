@@ -1,7 +1,9 @@
 // Section 4: the three plans, step by step.
-ghost use Rattle.std.specs.Prelude.{ℕ, ◌≤◌, [], length, IfOk, OnOk};
-ghost use Rattle.archiving.specs.Parts.{Extends, Reached, lines_of, every_play};
+ghost use Rattle.std.specs.Prelude.{◌≡◌, [], ◌++◌, drop, OnOk};
+ghost use Rattle.archiving.specs.Listings.{play_lines};
+ghost use Rattle.archiving.specs.Parts.{Extends, Listed, lines_of, every_play};
 
+use crate::cursors::{Listing, Step};
 use crate::listings::push_plays;
 use crate::prose::{OPENING, SCHEDULING, SEALING};
 use crate::steps::{
@@ -11,34 +13,8 @@ use crate::steps::{
 use plans::plays::Play;
 use plans::tables::{open_plan, schedule_plan, seal_plan};
 use std::alloc::AllocError;
+use std::ops::Range;
 use text::writes::{push_number, push_text};
-
-// Plays that belong together: what they do, and how many they are.
-pub(crate) struct Step {
-    pub(crate) what: &'static [u8],
-    pub(crate) count: usize,
-}
-
-// The plays of the steps from index `from` on, and the index that follows.
-fn push_steps(
-    out: &mut Vec<u8>,
-    plan: &[Play],
-    from: usize,
-    steps: &[Step],
-) -> Result<usize, AllocError>
-    requires { from ≤ length plan.now }
-    ensures { IfOk result (λ e. Reached plan.now from out.old.items out.new.items e) }
-{
-    let mut at = from;
-    for step in steps {
-        let end = at.saturating_add(step.count).min(plan.len());
-        let (part, _) = plan.split_at(end);
-        push_text(out, step.what)?;
-        push_plays(out, part, at)?;
-        at = end;
-    }
-    Ok(at)
-}
 
 fn push_head(out: &mut Vec<u8>, what: &[u8], n: u64) -> Result<(), AllocError>
     ensures { OnOk result (Extends [] out.old.items out.new.items) }
@@ -50,25 +26,49 @@ fn push_head(out: &mut Vec<u8>, what: &[u8], n: u64) -> Result<(), AllocError>
     Ok(())
 }
 
-// The steps for each number from `low` up to `high`, under a heading.
-fn push_groups(
-    out: &mut Vec<u8>,
-    plan: &[Play],
-    from: usize,
-    what: &[u8],
-    low: u64,
-    high: u64,
-    steps: &[Step],
-) -> Result<usize, AllocError>
-    requires { from ≤ length plan.now }
-    ensures { IfOk result (λ e. Reached plan.now from out.old.items out.new.items e) }
-{
-    let mut at = from;
-    for n in low..high {
-        push_head(out, what, n)?;
-        at = push_steps(out, plan, at, steps)?;
+impl Listing<'_> {
+    fn push_step(&mut self, out: &mut Vec<u8>, step: &Step) -> Result<(), AllocError>
+        ensures { OnOk result (Listed self.old self.new out.old.items out.new.items) }
+    {
+        let end = self.at.saturating_add(step.count).min(self.plan.len());
+        push_text(out, step.what)?;
+        push_plays(out, &self.plan[..end], self.at)?;
+        self.at = end;
+        Ok(())
     }
-    Ok(at)
+
+    fn push_steps(&mut self, out: &mut Vec<u8>, steps: &[Step]) -> Result<(), AllocError>
+        ensures { OnOk result (Listed self.old self.new out.old.items out.new.items) }
+    {
+        for step in steps {
+            self.push_step(out, step)?;
+        }
+        Ok(())
+    }
+
+    // The steps for each of the numbers, under a heading.
+    fn push_groups(
+        &mut self,
+        out: &mut Vec<u8>,
+        what: &[u8],
+        numbers: Range<u64>,
+        steps: &[Step],
+    ) -> Result<(), AllocError>
+        ensures { OnOk result (Listed self.old self.new out.old.items out.new.items) }
+    {
+        for n in numbers {
+            push_head(out, what, n)?;
+            self.push_steps(out, steps)?;
+        }
+        Ok(())
+    }
+
+    // The plays that no step has written.
+    fn push_rest(&self, out: &mut Vec<u8>) -> Result<(), AllocError>
+        ensures { OnOk result (out.new.items ≡ out.old.items ++ play_lines self.now.at (drop self.now.at self.now.plan.now)) }
+    {
+        push_plays(out, self.plan, self.at)
+    }
 }
 
 // A plan of a first stage, nine rounds and a last stage; what these leave over would follow.
@@ -81,20 +81,22 @@ fn push_rounds(
 ) -> Result<(), AllocError>
     ensures { OnOk result (Extends (lines_of 0 plan.now) out.old.items out.new.items) }
 {
-    let a = push_groups(out, plan, 0, b"Stage ", 0, 1, first)?;
-    let b = push_groups(out, plan, a, b"Stage ", 1, 10, round)?;
-    let c = push_groups(out, plan, b, b"Stage ", 10, 11, last)?;
-    push_plays(out, plan, c)?;
+    let mut listing = Listing::new(plan);
+    listing.push_groups(out, b"Stage ", 0..1, first)?;
+    listing.push_groups(out, b"Stage ", 1..10, round)?;
+    listing.push_groups(out, b"Stage ", 10..11, last)?;
+    listing.push_rest(out)?;
     Ok(())
 }
 
 fn push_schedule(out: &mut Vec<u8>, plan: &[Play]) -> Result<(), AllocError>
     ensures { OnOk result (Extends (lines_of 0 plan.now) out.old.items out.new.items) }
 {
-    let a = push_groups(out, plan, 0, b"Round key ", 0, 1, &SCHEDULE_START)?;
-    let b = push_groups(out, plan, a, b"Round key ", 1, 11, &SCHEDULE_KEY)?;
-    let c = push_steps(out, plan, b, &SCHEDULE_END)?;
-    push_plays(out, plan, c)?;
+    let mut listing = Listing::new(plan);
+    listing.push_groups(out, b"Round key ", 0..1, &SCHEDULE_START)?;
+    listing.push_groups(out, b"Round key ", 1..11, &SCHEDULE_KEY)?;
+    listing.push_steps(out, &SCHEDULE_END)?;
+    listing.push_rest(out)?;
     Ok(())
 }
 

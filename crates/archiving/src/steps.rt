@@ -1,5 +1,5 @@
 // The steps of the plans, each with the rule of its bases.
-use crate::planlists::Step;
+use crate::cursors::Step;
 
 pub(crate) const SEAL_FIRST: [Step; 2] = [
     Step {

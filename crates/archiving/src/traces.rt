@@ -23,11 +23,7 @@ fn combine(kind: Kind, x: u64, y: u64) -> u64
 fn word_at(words: &[u64], number: u16) -> u64
     ensures { result ≡ slice_index words.now number }
 {
-    if (number as usize) < words.len() {
-        words[number as usize]
-    } else {
-        0
-    }
+    words.get(number as usize).copied().unwrap_or(0)
 }
 
 // One gate done on the words, and what its target then holds.

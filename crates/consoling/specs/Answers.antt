@@ -1,7 +1,7 @@
 -- The text of an answer. Assumes nothing.
 --
 --   answer_text x   what is written for the call and answer x, with the byte 10 that ends its line
-use Rattle.std.specs.Prelude.{ℕ, Bool, true, false, List, [], ◌∷◌, ◌++◌, Some, None, codes, Option}
+use Rattle.std.specs.Prelude.{ℕ, Bool, true, false, List, [], ◌∷◌, ◌++◌, Some, None, Ok, Err, codes, Option}
 use Rattle.text.specs.Text.{decimal, hex_text}
 use Rattle.playing.specs.declared.answers.Answer.TheVariants as plain
 use Rattle.playing.specs.Answers.{answer_line}
@@ -9,9 +9,9 @@ use Rattle.lanetable.specs.declared.records.KeyState.{KeyState}
 use Rattle.lanetable.specs.declared.records.KeyState.TheVariants.{Absent, Placed, Scheduled}
 use Rattle.lanetable.specs.declared.records.LaneRecord.{LaneRecord}
 use Rattle.unit.specs.declared.unit.Counts.{Counts as Three}
-use Rattle.law.specs.Calls.{Asked, place_key, place_block, clear, schedule, seal, unseal, read, counts, left, record_of, unready, Line}
-use Rattle.law.specs.declared.calls.Answer.{Answer}
-use Rattle.law.specs.declared.calls.Answer.TheVariants.{Pending, Done, Refused, Counts, Left, Record, Unready}
+use Rattle.law.specs.Calls.{Asked, place_key, place_block, clear, schedule, seal, unseal, read, counts, left, record_of, unready, Answer, Line}
+use Rattle.law.specs.declared.calls.Reply.{Reply}
+use Rattle.law.specs.declared.calls.Reply.TheVariants.{Done, Counts, Left, Record, Unready}
 
 -- the three counts
 abbrev pub counts_text : Three → List ℕ
@@ -50,14 +50,17 @@ done_text left = answer_line plain.Done
 done_text (record_of l) = answer_line plain.Done
 done_text unready = answer_line plain.Done
 
-abbrev pub reply_text : Answer → Asked → List ℕ
-reply_text Pending a = codes "pending" ++ (10 ∷ [])
+abbrev pub reply_text : Reply → Asked → List ℕ
 reply_text Done a = done_text a
-reply_text (Refused f) a = answer_line (plain.Refused f)
 reply_text (Counts c) a = counts_text c
 reply_text (Left n) a = answer_line (plain.Left n)
 reply_text (Record r) a = record_text r
 reply_text (Unready o) a = unready_text o
 
+abbrev pub told_text : Answer → Asked → List ℕ
+told_text None a = codes "pending" ++ (10 ∷ [])
+told_text (Some (Ok r)) a = reply_text r a
+told_text (Some (Err f)) a = answer_line (plain.Refused f)
+
 abbrev pub answer_text : Line → List ℕ
-answer_text x = reply_text x.answer x.call
+answer_text x = told_text x.answer x.call

@@ -4,7 +4,7 @@
 --   call_of v a b   the call of the name v with the words a and b after it, empty where there is none
 --   call_in l       the call that the line l writes
 use Rattle.std.specs.Prelude.{ℕ, cond, List, [], length, drop, replicate, Some, None, codes, Option, ◌==◌, slice_index_or}
-use Rattle.std.specs.Option.{option_map}
+use Rattle.std.specs.Option.{option_map, option_zip}
 use Rattle.std.specs.Str.{bytes_eq}
 use Rattle.text.specs.Text.{number_in, bytes_in, words_in}
 use Rattle.law.specs.Calls.{Asked, place_key, place_block, clear, schedule, seal, unseal, read, counts, left, record_of, unready}
@@ -35,15 +35,11 @@ lane_in lane second = cond (length second == 0) (number_in lane) None
 
 -- a lane and bytes
 abbrev pub bringing : (ℕ → List ℕ → Asked) → Option ℕ → Option (List ℕ) → Option Asked
-bringing call None o = None
-bringing call (Some l) None = None
-bringing call (Some l) (Some bs) = Some (call l bs)
+bringing call lane bytes = option_map (λ p. call p.0 p.1) (option_zip lane bytes)
 
 -- a lane and the length of a buffer, which holds zeros
 abbrev pub reading : Option ℕ → Option ℕ → Option Asked
-reading None o = None
-reading (Some l) None = None
-reading (Some l) (Some n) = Some (read l (replicate n 0))
+reading lane len = option_map (λ p. read p.0 (replicate p.1 0)) (option_zip lane len)
 
 abbrev pub call_of : Verb → List ℕ → List ℕ → Option Asked
 call_of Key a b = bringing place_key (number_in a) (bytes_in b)

@@ -6,7 +6,7 @@
 --   console_text t       what is written for the script t
 --   Ran, RanBoth         a list of calls performed on a unit, and two on a unit each: the answers, and the law over them
 --   ConsoleLaw t         the law over the calls of the script t and their answers
-use Rattle.std.specs.Prelude.{◌≡◌, ℕ, ◌≤◌, Bool, true, false, cond, List, [], ◌∷◌, ◌++◌, length, drop, Some, None, codes, Option}
+use Rattle.std.specs.Prelude.{◌≡◌, ℕ, Bool, true, false, cond, List, [], ◌∷◌, ◌++◌, Some, None, codes, Option}
 use Rattle.text.specs.Text.{lines_in}
 use Rattle.bench.specs.Model.{Model, part}
 use Rattle.playing.specs.declared.answers.Answer.TheVariants.{Unreadable}
@@ -14,8 +14,7 @@ use Rattle.playing.specs.declared.setups.Setup.{Setup}
 use Rattle.playing.specs.Answers.{answer_line}
 use Rattle.playing.specs.Setups.{opens}
 use Rattle.unit.specs.View.{View, made}
-use Rattle.law.specs.declared.calls.Entry.{Entry}
-use Rattle.law.specs.Calls.{Asked, Line, lines, log}
+use Rattle.law.specs.Calls.{Asked, Line, log}
 use Rattle.law.specs.Law.{Lawful, Isolated}
 use Rattle.consoling.specs.declared.turns.Turn.{Turn}
 use Rattle.consoling.specs.declared.turns.Turn.TheVariants as turn
@@ -36,11 +35,6 @@ answers_text [] xs = []
 answers_text (turn.Unreadable n ∷ ts) xs = answer_line (Unreadable n) ++ answers_text ts xs
 answers_text (turn.Call ∷ ts) [] = answers_text ts []
 answers_text (turn.Call ∷ ts) (x ∷ xs) = answer_text x ++ answers_text ts xs
-
--- one turn written, with the entries es, of which those before next were written before it and those before k then are
-pub record Turned (t : Turn) (es : List Entry) (next k : ℕ) (was now_is : List ℕ) : Type 0 where
-  pub within : k ≤ length es
-  pub text : (ts : List Turn) → now_is ++ answers_text ts (lines (drop k es)) ≡ was ++ answers_text (t ∷ ts) (lines (drop next es))
 
 -- the lines ls after a bench line, of which the first is line n
 abbrev pub part_text : Bool → Setup → ℕ → List (List ℕ) → List ℕ

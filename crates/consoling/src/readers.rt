@@ -1,9 +1,9 @@
 // Reading a line that writes a call.
-ghost use Rattle.std.specs.Prelude.{◌≡◌, IfOk};
-ghost use Rattle.std.specs.Option.{option_map};
+ghost use Rattle.std.specs.Prelude.{◌≡◌, IfOk, vec_items};
+ghost use Rattle.std.specs.Option.{option_map, option_zip};
 ghost use Rattle.text.specs.Text.{number_in, bytes_in};
-ghost use Rattle.law.specs.Calls.{asked, place_key, place_block, clear, record_of};
-ghost use Rattle.consoling.specs.Lines.{verb_in, alone_in, lane_in, bringing, reading, call_of, call_in};
+ghost use Rattle.law.specs.Calls.{asked};
+ghost use Rattle.consoling.specs.Lines.{verb_in, alone_in, lane_in, reading, call_of, call_in};
 
 use crate::verbs::Verb;
 use law::calls::Call;
@@ -44,74 +44,45 @@ fn read_verb(word: &[u8]) -> Option<Verb>
 fn alone(call: Call, first: &[u8]) -> Option<Call>
     ensures { option_map asked result ≡ alone_in (asked call) first.now }
 {
-    if first.is_empty() { Some(call) } else { None }
+    first.is_empty().then_some(call)
+}
+
+fn lane_number(word: &[u8]) -> Option<usize>
+    ensures { result ≡ number_in word.now }
+{
+    number(word).map(|lane| lane as usize)
 }
 
 // The lane, where no word follows it.
 fn lane_alone(lane: &[u8], second: &[u8]) -> Option<usize>
     ensures { result ≡ lane_in lane.now second.now }
 {
-    if !second.is_empty() {
-        return None;
-    }
-    let lane = number(lane)?;
-    Some(lane as usize)
-}
-
-fn clear_call(lane: &[u8], second: &[u8]) -> Option<Call>
-    ensures { option_map asked result ≡ option_map clear (lane_in lane.now second.now) }
-{
-    match lane_alone(lane, second) {
-        Some(lane) => Some(Call::Clear(lane)),
-        None => None,
+    if second.is_empty() {
+        lane_number(lane)
+    } else {
+        None
     }
 }
 
-fn record_call(lane: &[u8], second: &[u8]) -> Option<Call>
-    ensures { option_map asked result ≡ option_map record_of (lane_in lane.now second.now) }
+// A lane, and the bytes that are given for it.
+fn given(heap: Global, lane: &[u8], bytes: &[u8]) -> Result<Option<(usize, Vec<u8>)>, AllocError>
+    ensures { IfOk result (λ o. option_map (λ p. (p.0, vec_items p.1)) o ≡ option_zip (number_in lane.now) (bytes_in bytes.now)) }
 {
-    match lane_alone(lane, second) {
-        Some(lane) => Some(Call::Record(lane)),
-        None => None,
-    }
-}
-
-fn key_call(heap: Global, lane: &[u8], bytes: &[u8]) -> Result<Option<Call>, AllocError>
-    ensures { IfOk result (λ o. option_map asked o ≡ bringing place_key (number_in lane.now) (bytes_in bytes.now)) }
-{
-    let Some(lane) = number(lane) else {
+    let Some(lane) = lane_number(lane) else {
         return Ok(None);
     };
-    match hex_bytes(heap, bytes)? {
-        Some(bytes) => Ok(Some(Call::PlaceKey(lane as usize, bytes))),
-        None => Ok(None),
-    }
-}
-
-fn block_call(heap: Global, lane: &[u8], bytes: &[u8]) -> Result<Option<Call>, AllocError>
-    ensures { IfOk result (λ o. option_map asked o ≡ bringing place_block (number_in lane.now) (bytes_in bytes.now)) }
-{
-    let Some(lane) = number(lane) else {
-        return Ok(None);
-    };
-    match hex_bytes(heap, bytes)? {
-        Some(bytes) => Ok(Some(Call::PlaceBlock(lane as usize, bytes))),
-        None => Ok(None),
-    }
+    Ok(hex_bytes(heap, bytes)?.map(|bytes| (lane, bytes)))
 }
 
 // A reading, with a buffer of zeros.
 fn reading_call(heap: Global, lane: &[u8], length: &[u8]) -> Result<Option<Call>, AllocError>
     ensures { IfOk result (λ o. option_map asked o ≡ reading (number_in lane.now) (number_in length.now)) }
 {
-    let Some(lane) = number(lane) else {
-        return Ok(None);
-    };
-    let Some(length) = number(length) else {
+    let Some((lane, length)) = lane_number(lane).zip(number(length)) else {
         return Ok(None);
     };
     let buffer = vec![in heap; 0u8; length as usize]?;
-    Ok(Some(Call::Read(lane as usize, buffer)))
+    Ok(Some(Call::Read(lane, buffer)))
 }
 
 // The call of a verb and the two words after it, empty where there is none.
@@ -123,19 +94,21 @@ fn call_of(
 ) -> Result<Option<Call>, AllocError>
     ensures { IfOk result (λ o. option_map asked o ≡ call_of verb first.now second.now) }
 {
-    match verb {
-        Verb::Key => key_call(heap, first, second),
-        Verb::Block => block_call(heap, first, second),
-        Verb::Clear => Ok(clear_call(first, second)),
-        Verb::Schedule => Ok(alone(Call::Schedule, first)),
-        Verb::Seal => Ok(alone(Call::Seal, first)),
-        Verb::Open => Ok(alone(Call::Open, first)),
-        Verb::Read => reading_call(heap, first, second),
-        Verb::Counts => Ok(alone(Call::Counts, first)),
-        Verb::Left => Ok(alone(Call::Left, first)),
-        Verb::Record => Ok(record_call(first, second)),
-        Verb::Unready => Ok(alone(Call::Unready, first)),
-    }
+    Ok(match verb {
+        Verb::Key => given(heap, first, second)?.map(|(lane, bytes)| Call::PlaceKey(lane, bytes)),
+        Verb::Block => given(heap, first, second)?.map(|(lane, bytes)| Call::PlaceBlock(
+            lane, bytes,
+        )),
+        Verb::Clear => lane_alone(first, second).map(Call::Clear),
+        Verb::Schedule => alone(Call::Schedule, first),
+        Verb::Seal => alone(Call::Seal, first),
+        Verb::Open => alone(Call::Open, first),
+        Verb::Read => reading_call(heap, first, second)?,
+        Verb::Counts => alone(Call::Counts, first),
+        Verb::Left => alone(Call::Left, first),
+        Verb::Record => lane_alone(first, second).map(Call::Record),
+        Verb::Unready => alone(Call::Unready, first),
+    })
 }
 
 // The call that a line writes.
@@ -149,8 +122,8 @@ pub fn read_call(heap: Global, line: &[u8]) -> Result<Option<Call>, AllocError>
     if !extra.is_empty() {
         return Ok(None);
     }
-    match read_verb(name) {
-        Some(verb) => call_of(heap, verb, first, second),
-        None => Ok(None),
-    }
+    let Some(verb) = read_verb(name) else {
+        return Ok(None);
+    };
+    call_of(heap, verb, first, second)
 }

@@ -6,7 +6,7 @@ ghost use Rattle.consoling.specs.Scripts.{besides, turns_of, calls_of, Parted, O
 
 use crate::readers::read_call;
 use crate::turns::{Body, Found, Opening, Script, Turn};
-use law::calls::{Answer, Entry};
+use law::calls::Entry;
 use playing::benchlines::read_bench;
 use playing::readers::is_silent;
 use std::alloc::{AllocError, Global};
@@ -38,8 +38,7 @@ fn read_line(heap: Global, line: &[u8], number: u64, script: &mut Script) -> Res
     }
     match read_call(heap, line)? {
         Some(call) => {
-            let answer = Answer::Pending;
-            script.log.push(Entry { call, answer })?;
+            script.log.push(Entry { call, answer: None })?;
             script.turns.push(Turn::Call)?;
         }
         None => script.turns.push(Turn::Unreadable(number))?,

@@ -1,12 +1,12 @@
 // Writing answers.
-ghost use Rattle.std.specs.Prelude.{◌≡◌, ◌≤◌, ◌++◌, length, IfOk, OnOk};
+ghost use Rattle.std.specs.Prelude.{◌≡◌, ◌++◌, OnOk};
 ghost use Rattle.law.specs.Calls.{asked, line, lines};
-ghost use Rattle.consoling.specs.Answers.{counts_text, key_name, block_name, record_text, unready_text, reading_text, done_text, answer_text};
-ghost use Rattle.consoling.specs.Runs.{answers_text, Turned};
+ghost use Rattle.consoling.specs.Answers.{counts_text, key_name, block_name, record_text, unready_text, reading_text, done_text, reply_text, answer_text};
+ghost use Rattle.consoling.specs.Runs.{answers_text};
 
 use crate::turns::Turn;
 use lanetable::records::{KeyState, LaneRecord};
-use law::calls::{Answer, Call, Entry};
+use law::calls::{Call, Entry, Reply};
 use playing::answers::Answer as Plain;
 use playing::writers::push_answer as push_plain;
 use std::alloc::AllocError;
@@ -38,10 +38,7 @@ fn push_key(out: &mut Vec<u8>, key: KeyState) -> Result<(), AllocError>
 fn push_block(out: &mut Vec<u8>, block: bool) -> Result<(), AllocError>
     ensures { OnOk result (out.new.items ≡ out.old.items ++ block_name block) }
 {
-    match block {
-        true => push_text(out, b"block"),
-        false => push_text(out, b"empty"),
-    }
+    push_text(out, if block { b"block" } else { b"empty" })
 }
 
 fn push_record(out: &mut Vec<u8>, record: LaneRecord) -> Result<(), AllocError>
@@ -84,38 +81,26 @@ fn push_done(out: &mut Vec<u8>, call: &Call) -> Result<(), AllocError>
     }
 }
 
+fn push_reply(out: &mut Vec<u8>, reply: Reply, call: &Call) -> Result<(), AllocError>
+    ensures { OnOk result (out.new.items ≡ out.old.items ++ reply_text reply (asked call.now)) }
+{
+    match reply {
+        Reply::Done => push_done(out, call),
+        Reply::Counts(counts) => push_counts(out, counts),
+        Reply::Left(gates) => push_plain(out, Plain::Left(gates)),
+        Reply::Record(record) => push_record(out, record),
+        Reply::Unready(lane) => push_unready(out, lane),
+    }
+}
+
 // Appends the answer of an entry and the end of its line.
 pub fn push_answer(out: &mut Vec<u8>, entry: &Entry) -> Result<(), AllocError>
     ensures { OnOk result (out.new.items ≡ out.old.items ++ answer_text (line entry.now)) }
 {
     match entry.answer {
-        Answer::Pending => push_text(out, b"pending\n"),
-        Answer::Done => push_done(out, &entry.call),
-        Answer::Refused(fault) => push_plain(out, Plain::Refused(fault)),
-        Answer::Counts(counts) => push_counts(out, counts),
-        Answer::Left(gates) => push_plain(out, Plain::Left(gates)),
-        Answer::Record(record) => push_record(out, record),
-        Answer::Unready(lane) => push_unready(out, lane),
-    }
-}
-
-// Appends what one turn gives, with the answer of entry `next` where it is a call, and gives the entry after it.
-fn push_turn(out: &mut Vec<u8>, turn: Turn, log: &[Entry], next: usize) -> Result<usize, AllocError>
-    requires { next ≤ length log.now }
-    ensures { IfOk result (λ k. Turned turn log.now next k out.old.items out.new.items) }
-{
-    match turn {
-        Turn::Unreadable(number) => {
-            push_plain(out, Plain::Unreadable(number))?;
-            Ok(next)
-        }
-        Turn::Call => {
-            if next == log.len() {
-                return Ok(next);
-            }
-            push_answer(out, &log[next])?;
-            Ok(next + 1)
-        }
+        None => push_text(out, b"pending\n"),
+        Some(Ok(reply)) => push_reply(out, reply, &entry.call),
+        Some(Err(fault)) => push_plain(out, Plain::Refused(fault)),
     }
 }
 
@@ -123,9 +108,16 @@ fn push_turn(out: &mut Vec<u8>, turn: Turn, log: &[Entry], next: usize) -> Resul
 pub fn push_answers(out: &mut Vec<u8>, turns: &[Turn], log: &[Entry]) -> Result<(), AllocError>
     ensures { OnOk result (out.new.items ≡ out.old.items ++ answers_text turns.now (lines log.now)) }
 {
-    let mut next = 0;
+    let mut entries = log.iter();
     for turn in turns {
-        next = push_turn(out, *turn, log, next)?;
+        match turn {
+            Turn::Unreadable(number) => push_plain(out, Plain::Unreadable(*number))?,
+            Turn::Call => {
+                if let Some(entry) = entries.next() {
+                    push_answer(out, entry)?;
+                }
+            }
+        }
     }
     Ok(())
 }

@@ -117,7 +117,7 @@ mod console {
     use bench::word::WordBench;
     use consoling::runs::console_script;
     use consoling::writers::push_answer;
-    use law::calls::{Answer, Call, Entry};
+    use law::calls::{Call, Entry};
     use law::run::run;
     use std::test::Fail;
 
@@ -147,7 +147,7 @@ mod console {
         let second = RowBench::new(row.as_mut_slice(), 256, 9);
         let mut log = [Entry {
             call: Call::Record(128),
-            answer: Answer::Pending,
+            answer: None,
         }];
         let _unit = run(SideBySide { first, second }, &mut log);
         let mut out = Vec::new(heap);

@@ -17,12 +17,12 @@ use Rattle.lanetable.specs.Records.{empty, promoted, promotes, is_scheduled, unr
 use Rattle.unit.specs.Works.{kind, worked, S, O}
 use Rattle.unit.specs.View.{View, Shape, shape, made}
 use Rattle.unit.specs.Lanes.{state_of, key_of, round_shown}
-use Rattle.unit.specs.Answers.{settled}
+use Rattle.unit.specs.Answers.{given, settled}
 use Rattle.unit.proofs.Bytes.{shown_state, shown_key, same_state, same_key, same_rounds}
 use Rattle.standard.proofs.Loops.{same_cipher, same_inv_cipher}
 use Rattle.unit.proofs.Planned.{planned_lanes, plan_expands, plan_enciphers, plan_deciphers}
 use Rattle.unit.proofs.Settled.{naming_tells, placing_tells, scheduling_tells, working_tells}
-use Rattle.law.specs.Calls.{Asked, place_key, place_block, clear, schedule, seal, unseal, read, counts, left, record_of, unready as unready-lane, accepted, told, answered, refusal, performed, next, done, filled}
+use Rattle.law.specs.Calls.{Asked, place_key, place_block, clear, schedule, seal, unseal, read, accepted, told, refusal, performed, next, done, filled}
 pub use Rattle.law.specs.Sound.{Sound, AllSound}
 use Rattle.law.specs.Book.{Page, Book, blank, through, wrote, entered}
 
@@ -142,21 +142,12 @@ laid_sixteen base lane l bs m e n small =
 
 -- ---- what the book enters of a performed call
 
-enter_done : (s : Shape) (bs : List ℕ) (a : Asked) (b : Book) (l : ℕ) → cond (accepted (told s a)) (wrote b (filled None bs a) l) (b l) ≡ wrote b a l
-enter_done s bs (place_key lane cs) b l = refl
-enter_done s bs (place_block lane cs) b l = refl
-enter_done s bs (clear lane) b l = refl
-enter_done s bs schedule b l = refl
-enter_done s bs seal b l = refl
-enter_done s bs unseal b l = refl
-enter_done s bs (read lane cs) b l = refl
-enter_done s bs counts b l = refl
-enter_done s bs left b l = refl
-enter_done s bs (record_of lane) b l = refl
-enter_done s bs unready-lane b l = refl
+enter_done : (bs : List ℕ) (a : Asked) (b : Book) (l : ℕ) → wrote b (filled None bs a) l ≡ wrote b a l
+enter_done bs (read lane cs) b l = refl
+enter_done bs _ b l = refl
 
-enter_one : (o : Option Fault) (s : Shape) (bs : List ℕ) (a : Asked) (b : Book) (l : ℕ) → cond (accepted (answered o (told s a))) (wrote b (filled o bs a) l) (b l) ≡ settled o (wrote b a l) (b l)
-enter_one None s bs a b l = enter_done s bs a b l
+enter_one : (o : Option Fault) (s : Shape) (bs : List ℕ) (a : Asked) (b : Book) (l : ℕ) → cond (accepted (Some (given (told s a) o))) (wrote b (filled o bs a) l) (b l) ≡ settled o (wrote b a l) (b l)
+enter_one None s bs a b l = enter_done bs a b l
 enter_one (Some f) s bs a b l = refl
 
 pub entered_is : (v : View) (a : Asked) (b : Book) (l : ℕ) → entered b (performed v a) l ≡ settled (refusal (shape v) a) (wrote b a l) (b l)
@@ -243,11 +234,7 @@ done_holds v b unseal sound e h =
                 (turned_block (InvCipher (rounds kind)) (decrypted kind) by_inv_cipher r.key r.block _ _ _ _ _ (all_ready 0 v.records l t.1) (h.lane l lt).0 (h.lane l lt).1),
           );
     }
-done_holds v b (read lane bs) sound e h = record { size = h.size; lane = h.lane }
-done_holds v b counts sound e h = record { size = h.size; lane = h.lane }
-done_holds v b left sound e h = record { size = h.size; lane = h.lane }
-done_holds v b (record_of lane) sound e h = record { size = h.size; lane = h.lane }
-done_holds v b unready-lane sound e h = record { size = h.size; lane = h.lane }
+done_holds v b _ sound e h = record { size = h.size; lane = h.lane }
 
 settled_holds : (o : Option Fault) (v w : View) (b c : Book) → (o ≡ None → Holds w c) → Holds v b → Holds (settled o w v) (λ l. settled o (c l) (b l))
 settled_holds None v w b c h k = let g = h refl in record { size = g.size; lane = g.lane }

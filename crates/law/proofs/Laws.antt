@@ -1,5 +1,5 @@
 -- The laws of every list of calls, by induction on the list. Assumes nothing.
-use Rattle.std.proofs.Common.{◌≡◌, ℕ, ◌+◌, ◌-◌, ◌*◌, ◌≤◌, Bool, true, false, cond, ◌&&◌, eqb, ◌⊎◌, List, [], ◌∷◌, ◌++◌, length, get_or, set, Some, None, Option, sym, refl, ap, ◌∙◌, inl, inr, ⊎_elim, arith}
+use Rattle.std.proofs.Common.{◌≡◌, ℕ, ◌+◌, ◌-◌, ◌*◌, ◌≤◌, Bool, true, false, cond, ◌&&◌, eqb, ◌⊎◌, List, [], ◌∷◌, ◌++◌, length, get_or, set, Some, None, Ok, Option, sym, refl, ap, ◌∙◌, inl, inr, ⊎_elim, arith}
 use Rattle.std.proofs.lemmas.Bool.{ne_eqb, true≢false, false≢true}
 use Rattle.standard.specs.Kinds.{encrypted, decrypted, key_bytes}
 use Rattle.bench.specs.declared.faults.Fault.{Fault}
@@ -13,11 +13,10 @@ use Rattle.plans.specs.declared.plays.Play.{Play}
 use Rattle.unit.specs.Works.{kind, worked, worked_in, gates_of_plan, K, S, O}
 use Rattle.unit.specs.View.{Shape, View, shape, made}
 use Rattle.unit.specs.Lanes.{state_of}
-use Rattle.unit.specs.Answers.{placing, reading, settled}
+use Rattle.unit.specs.Answers.{placing, reading, given, settled}
 use Rattle.unit.proofs.Settled.{reading_tells, scheduling_tells, working_tells}
-use Rattle.law.specs.declared.calls.Answer.{Answer}
-use Rattle.law.specs.declared.calls.Answer.TheVariants.{Done}
-use Rattle.law.specs.Calls.{Asked, place_key, place_block, clear, schedule, seal, unseal, read, counts, left, record_of, unready, Line, accepted, told, answered, answer, refusal, performed, next, done, filled, lane_of, log, ran}
+use Rattle.law.specs.declared.calls.Reply.TheVariants.{Done}
+use Rattle.law.specs.Calls.{Asked, place_key, place_block, clear, schedule, seal, unseal, read, Line, Answer, accepted, told, replied, answer, refusal, performed, next, done, filled, lane_of, log, ran}
 use Rattle.law.specs.Book.{Page, Book, blank, turned, wrote, entered, kept}
 use Rattle.law.specs.Law.{Readings, Charged, is_schedule, is_seal, is_open, Alike, same, key_elsewhere, block_elsewhere, Agree, Each}
 use Rattle.unit.proofs.Planned.{planned_registers, planned_lanes, worked_falls}
@@ -32,7 +31,7 @@ block_held : (t : Bool) (st : List ℕ) (p : Option (List ℕ)) → t ≡ true �
 block_held true st p e h = h
 block_held false st p e h = absurd (false≢true e)
 
-read_right : (v : View) (b : Book) (o : Option Fault) (l lane : ℕ) (buf bytes : List ℕ) (a : Answer) → Holds v b → reading (shape v) l (length buf) ≡ o → read l (settled o (state_of v.model l) buf) ≡ read lane bytes → answered o Done ≡ a → accepted a ≡ true → (b lane).block ≡ Some bytes
+read_right : (v : View) (b : Book) (o : Option Fault) (l lane : ℕ) (buf bytes : List ℕ) (a : Answer) → Holds v b → reading (shape v) l (length buf) ≡ o → read l (settled o (state_of v.model l) buf) ≡ read lane bytes → Some (given Done o) ≡ a → accepted a ≡ true → (b lane).block ≡ Some bytes
 read_right v b None l lane buf bytes a h e call said ok =
     let t = reading_tells (shape v) l (length buf) e in
     let at : l ≡ lane = cc in
@@ -41,17 +40,8 @@ read_right v b None l lane buf bytes a h e call said ok =
 read_right v b (Some f) l lane buf bytes a h e call said ok = absurd (false≢true (ap accepted said ∙ ok))
 
 one_right : (v : View) (b : Book) (x : Asked) (lane : ℕ) (bytes : List ℕ) (a : Answer) → Holds v b → (performed v x).call ≡ read lane bytes → (performed v x).answer ≡ a → accepted a ≡ true → (b lane).block ≡ Some bytes
-one_right v b (place_key l bs) lane bytes a h call said ok = let z : ◌≡◌ {A = ℕ} 0 1 = cc in absurdity z
-one_right v b (place_block l bs) lane bytes a h call said ok = let z : ◌≡◌ {A = ℕ} 0 1 = cc in absurdity z
-one_right v b (clear l) lane bytes a h call said ok = let z : ◌≡◌ {A = ℕ} 0 1 = cc in absurdity z
-one_right v b schedule lane bytes a h call said ok = let z : ◌≡◌ {A = ℕ} 0 1 = cc in absurdity z
-one_right v b seal lane bytes a h call said ok = let z : ◌≡◌ {A = ℕ} 0 1 = cc in absurdity z
-one_right v b unseal lane bytes a h call said ok = let z : ◌≡◌ {A = ℕ} 0 1 = cc in absurdity z
 one_right v b (read l buf) lane bytes a h call said ok = read_right v b (reading (shape v) l (length buf)) l lane buf bytes a h refl call said ok
-one_right v b counts lane bytes a h call said ok = let z : ◌≡◌ {A = ℕ} 0 1 = cc in absurdity z
-one_right v b left lane bytes a h call said ok = let z : ◌≡◌ {A = ℕ} 0 1 = cc in absurdity z
-one_right v b (record_of l) lane bytes a h call said ok = let z : ◌≡◌ {A = ℕ} 0 1 = cc in absurdity z
-one_right v b unready lane bytes a h call said ok = let z : ◌≡◌ {A = ℕ} 0 1 = cc in absurdity z
+one_right v b _ lane bytes a h call said ok = let z : ◌≡◌ {A = ℕ} 0 1 = cc in absurdity z
 
 pub all_right : (xs : List Asked) → AllSound xs → (v : View) (b : Book) → Holds v b → (before after : List Line) (lane : ℕ) (bytes : List ℕ) (a : Answer) → log v xs ≡ before ++ (record { call = read lane bytes; answer = a } ∷ after) → accepted a ≡ true → (kept b before lane).block ≡ Some bytes
 all_right [] sound v b h [] after lane bytes a e ok = let z : ◌≡◌ {A = ℕ} 0 1 = cc in absurdity z
@@ -75,21 +65,14 @@ paid x =
     K * cond (accepted x.answer && is_schedule x.call) 1 0
     + (S * cond (accepted x.answer && is_seal x.call) 1 0 + O * cond (accepted x.answer && is_open x.call) 1 0)
 
-pay_done : (v : View) (a : Asked) (bs : List ℕ) → refusal (shape v) a ≡ None → v.model.left ≡ (done v a).model.left + paid (record { call = filled None bs a; answer = told (shape v) a })
+pay_done : (v : View) (a : Asked) (bs : List ℕ) → refusal (shape v) a ≡ None → v.model.left ≡ (done v a).model.left + paid (replied (filled None bs a) (Ok (told (shape v) a)))
 unfolding laid
-pay_done v (place_key l cs) bs e = omega arith
-pay_done v (place_block l cs) bs e = omega arith
-pay_done v (clear l) bs e = omega arith
 pay_done v schedule bs e = let f = worked_falls (schedule_plan kind) v.model (scheduling_tells (shape v) e).1 in omega arith
 pay_done v seal bs e = let f = worked_falls (seal_plan kind) v.model (working_tells (shape v) S e).2 in omega arith
 pay_done v unseal bs e = let f = worked_falls (open_plan kind) v.model (working_tells (shape v) O e).2 in omega arith
-pay_done v (read l cs) bs e = omega arith
-pay_done v counts bs e = omega arith
-pay_done v left bs e = omega arith
-pay_done v (record_of l) bs e = omega arith
-pay_done v unready bs e = omega arith
+pay_done v _ bs e = omega arith
 
-pay_one : (v : View) (a : Asked) (bs : List ℕ) (o : Option Fault) → refusal (shape v) a ≡ o → v.model.left ≡ (settled o (done v a) v).model.left + paid (record { call = filled o bs a; answer = answered o (told (shape v) a) })
+pay_one : (v : View) (a : Asked) (bs : List ℕ) (o : Option Fault) → refusal (shape v) a ≡ o → v.model.left ≡ (settled o (done v a) v).model.left + paid (replied (filled o bs a) (given (told (shape v) a) o))
 pay_one v a bs None e = pay_done v a bs e
 pay_one v a bs (Some f) e = omega arith
 
@@ -110,11 +93,7 @@ shaped s (clear l) = record { registers = s.registers; lanes = s.lanes; left = s
 shaped s schedule = record { registers = s.registers; lanes = s.lanes; left = s.left - K; records = mathlib.Core.List.map promotes s.records }
 shaped s seal = record { registers = s.registers; lanes = s.lanes; left = s.left - S; records = s.records }
 shaped s unseal = record { registers = s.registers; lanes = s.lanes; left = s.left - O; records = s.records }
-shaped s (read l bs) = s
-shaped s counts = s
-shaped s left = s
-shaped s (record_of l) = s
-shaped s unready = s
+shaped s _ = s
 
 -- after a plan the size stays, and its gates are gone
 shape_worked : (plan : List Play) (rs : List LaneRecord) (v : View) → gates_of_plan plan ≤ v.model.left
@@ -132,11 +111,7 @@ shape_done v (clear l) e = refl
 shape_done v schedule e = shape_worked (schedule_plan kind) (mathlib.Core.List.map promotes v.records) v (scheduling_tells (shape v) e).1
 shape_done v seal e = shape_worked (seal_plan kind) v.records v (working_tells (shape v) S e).2
 shape_done v unseal e = shape_worked (open_plan kind) v.records v (working_tells (shape v) O e).2
-shape_done v (read l bs) e = refl
-shape_done v counts e = refl
-shape_done v left e = refl
-shape_done v (record_of l) e = refl
-shape_done v unready e = refl
+shape_done v _ e = refl
 
 shape_settled : (o : Option Fault) (v w : View) (s : Shape) → (o ≡ None → shape w ≡ s) → shape (settled o w v) ≡ settled o s (shape v)
 shape_settled None v w s h = h refl
@@ -161,7 +136,7 @@ alike_told ch s (key_elsewhere l bs cs ne e) = refl
 alike_told ch s (block_elsewhere l bs cs ne e) = refl
 
 alike_answer : (ch : ℕ) {x y : Asked} (s t : Shape) → s ≡ t → Alike ch x y → answer s x ≡ answer t y
-alike_answer ch {x} {y} s t e h = ap (λ s. answer s x) e ∙ (λ i. answered (alike_refusal ch t h i) (alike_told ch t h i))
+alike_answer ch {x} {y} s t e h = ap (λ s. answer s x) e ∙ (λ i. given (alike_told ch t h i) (alike_refusal ch t h i))
 
 alike_next : (ch : ℕ) {x y : Asked} (v w : View) → shape v ≡ shape w → Alike ch x y → shape (next v x) ≡ shape (next w y)
 alike_next ch {x} {y} v w e h =
@@ -172,14 +147,9 @@ wrote_at : (b c : Book) (a : Asked) (l : ℕ) → b l ≡ c l → wrote b a l �
 wrote_at b c (place_key lane bs) l e = ap (λ (p : Page). cond (eqb l lane) (record { key = Some bs; block = p.block }) p) e
 wrote_at b c (place_block lane bs) l e = ap (λ (p : Page). cond (eqb l lane) (record { key = p.key; block = Some bs }) p) e
 wrote_at b c (clear lane) l e = ap (λ (p : Page). cond (eqb l lane) (record { key = None; block = None }) p) e
-wrote_at b c schedule l e = e
 wrote_at b c seal l e = ap (turned (encrypted kind)) e
 wrote_at b c unseal l e = ap (turned (decrypted kind)) e
-wrote_at b c (read lane bs) l e = e
-wrote_at b c counts l e = e
-wrote_at b c left l e = e
-wrote_at b c (record_of lane) l e = e
-wrote_at b c unready l e = e
+wrote_at b c _ l e = e
 
 alike_wrote : (ch : ℕ) {x y : Asked} (b c : Book) → b ch ≡ c ch → Alike ch x y → wrote b x ch ≡ wrote c y ch
 alike_wrote ch b c e (same a) = wrote_at b c a ch e
@@ -197,7 +167,7 @@ alike_page ch {x} {y} v w b c e p h =
     ∙ sym (entered_is w y c ch)
 
 -- a reading of the chosen lane, or a refused one
-same_buffer : (ch : ℕ) (v w : View) (b c : Book) (o : Option Fault) (l : ℕ) (buf : List ℕ) → Holds v b → Holds w c → b ch ≡ c ch → reading (shape v) l (length buf) ≡ o → reading (shape w) l (length buf) ≡ o → (l ≡ ch) ⊎ (accepted (answered o Done) ≡ false) → settled o (state_of v.model l) buf ≡ settled o (state_of w.model l) buf
+same_buffer : (ch : ℕ) (v w : View) (b c : Book) (o : Option Fault) (l : ℕ) (buf : List ℕ) → Holds v b → Holds w c → b ch ≡ c ch → reading (shape v) l (length buf) ≡ o → reading (shape w) l (length buf) ≡ o → (l ≡ ch) ⊎ (accepted (Some (given Done o)) ≡ false) → settled o (state_of v.model l) buf ≡ settled o (state_of w.model l) buf
 same_buffer ch v w b c (Some f) l buf hv hw p ev ew d = refl
 same_buffer ch v w b c None l buf hv hw p ev ew (inr no_answer) = absurd (true≢false no_answer)
 same_buffer ch v w b c None l buf hv hw p ev ew (inl at) =
@@ -209,34 +179,25 @@ same_buffer ch v w b c None l buf hv hw p ev ew (inl at) =
     cc
 
 alike_buffer : (ch : ℕ) (a : Asked) (v w : View) (b c : Book) → Holds v b → Holds w c → shape v ≡ shape w → b ch ≡ c ch → (lane : ℕ) (bs cs : List ℕ) → (performed v a).call ≡ read lane bs → (performed w a).call ≡ read lane cs → (lane ≡ ch) ⊎ (accepted (performed v a).answer ≡ false) → bs ≡ cs
-alike_buffer ch (place_key l ds) v w b c hv hw e p lane bs cs x y d = cc
-alike_buffer ch (place_block l ds) v w b c hv hw e p lane bs cs x y d = cc
-alike_buffer ch (clear l) v w b c hv hw e p lane bs cs x y d = cc
-alike_buffer ch schedule v w b c hv hw e p lane bs cs x y d = cc
-alike_buffer ch seal v w b c hv hw e p lane bs cs x y d = cc
-alike_buffer ch unseal v w b c hv hw e p lane bs cs x y d = cc
 alike_buffer ch (read l ds) v w b c hv hw e p lane bs cs x y d =
     let o : Option Fault = reading (shape v) l (length ds) in
     let ow : reading (shape w) l (length ds) ≡ o = ap (λ s. reading s l (length ds)) (sym e) in
     let at : l ≡ lane = cc in
-    let here : (l ≡ ch) ⊎ (accepted (answered o Done) ≡ false) = ⊎_elim (λ q. inl (at ∙ q)) (λ q. inr q) d in
+    let here : (l ≡ ch) ⊎ (accepted (Some (given Done o)) ≡ false) = ⊎_elim (λ q. inl (at ∙ q)) (λ q. inr q) d in
     let mid : settled o (state_of v.model l) ds ≡ settled o (state_of w.model l) ds = same_buffer ch v w b c o l ds hv hw p refl ow here in
     let left : settled o (state_of v.model l) ds ≡ bs = cc in
     let right : settled (reading (shape w) l (length ds)) (state_of w.model l) ds ≡ cs = cc in
     sym left ∙ mid ∙ ap (λ o. settled o (state_of w.model l) ds) (sym ow) ∙ right
-alike_buffer ch counts v w b c hv hw e p lane bs cs x y d = cc
-alike_buffer ch left v w b c hv hw e p lane bs cs x y d = cc
-alike_buffer ch (record_of l) v w b c hv hw e p lane bs cs x y d = cc
-alike_buffer ch unready v w b c hv hw e p lane bs cs x y d = cc
+alike_buffer ch _ v w b c hv hw e p lane bs cs x y d = cc
 
 agree_one : (ch : ℕ) {x y : Asked} (v w : View) (b c : Book) → Holds v b → Holds w c → shape v ≡ shape w → b ch ≡ c ch → Alike ch x y → Agree ch (performed v x) (performed w y)
-agree_one ch v w b c hv hw e p (same a) = record { answer = alike_answer ch (shape v) (shape w) e (same a); buffer = alike_buffer ch a v w b c hv hw e p }
+agree_one ch v w b c hv hw e p (same a) = record { answer = ap Some (alike_answer ch (shape v) (shape w) e (same a)); buffer = alike_buffer ch a v w b c hv hw e p }
 agree_one ch v w b c hv hw e p (key_elsewhere l ds es ne len) = record {
-  answer = alike_answer ch (shape v) (shape w) e (key_elsewhere l ds es ne len);
+  answer = ap Some (alike_answer ch (shape v) (shape w) e (key_elsewhere l ds es ne len));
   buffer = λ lane bs cs x y d. let z : ◌≡◌ {A = ℕ} 0 1 = cc in absurdity z;
 }
 agree_one ch v w b c hv hw e p (block_elsewhere l ds es ne len) = record {
-  answer = alike_answer ch (shape v) (shape w) e (block_elsewhere l ds es ne len);
+  answer = ap Some (alike_answer ch (shape v) (shape w) e (block_elsewhere l ds es ne len));
   buffer = λ lane bs cs x y d. let z : ◌≡◌ {A = ℕ} 0 1 = cc in absurdity z;
 }
 

@@ -1,5 +1,5 @@
 pub mod Holds
 pub mod Laws
-pub mod Did
+pub mod Pushed
 pub mod Loop
 pub mod Whole

@@ -5,7 +5,7 @@ use Rattle.unit.specs.View.{View}
 use Rattle.law.specs.declared.calls.Entry.{Entry}
 use Rattle.law.specs.Calls.{Asked, asked, line, lines, asks, log, ran, performed, next}
 use Rattle.law.proofs.Holds.{Sound, AllSound}
-use Rattle.law.proofs.Did.{log_push, ran_push}
+use Rattle.law.proofs.Pushed.{log_push, ran_push}
 
 -- the answers so far, the unit so far, the entries to come untouched, and the bytes so far
 abbrev pub Sofar : View → View → ℕ → List Entry → List Entry → Type 0

@@ -6,7 +6,7 @@
 use Rattle.std.specs.Prelude.{ℕ, cond, List, [], ◌∷◌, Some, None, Option, ◌==◌}
 use Rattle.standard.specs.Kinds.{encrypted, decrypted}
 use Rattle.unit.specs.Works.{kind}
-use Rattle.law.specs.Calls.{Asked, place_key, place_block, clear, schedule, seal, unseal, read, counts, left, record_of, unready, Line, accepted}
+use Rattle.law.specs.Calls.{Asked, place_key, place_block, clear, seal, unseal, Line, accepted}
 
 pub record Page : Type 0 where
   pub key : Option (List ℕ)
@@ -32,14 +32,9 @@ abbrev pub wrote : Book → Asked → Book
 wrote b (place_key lane bs) l = cond (l == lane) (record { key = Some bs; block = (b l).block }) (b l)
 wrote b (place_block lane bs) l = cond (l == lane) (record { key = (b l).key; block = Some bs }) (b l)
 wrote b (clear lane) l = cond (l == lane) (record { key = None; block = None }) (b l)
-wrote b schedule l = b l
 wrote b seal l = turned (encrypted kind) (b l)
 wrote b unseal l = turned (decrypted kind) (b l)
-wrote b (read lane bs) l = b l
-wrote b counts l = b l
-wrote b left l = b l
-wrote b (record_of lane) l = b l
-wrote b unready l = b l
+wrote b _ l = b l
 
 -- a refused call writes nothing
 abbrev pub entered : Book → Line → Book

@@ -6,9 +6,8 @@
 --   Agree       two lines that differ at most in the bytes that a reading gave from another lane
 --   Lawful      the law of one run; Isolated, the law of two
 use Rattle.std.specs.Prelude.{◌≡◌, ℕ, ◌+◌, ◌*◌, Bool, true, false, cond, ◌&&◌, ◌⊎◌, List, [], ◌∷◌, ◌++◌, length, Some, ◌≢◌}
-use Rattle.law.specs.declared.calls.Answer.{Answer}
 use Rattle.unit.specs.Works.{K, S, O}
-use Rattle.law.specs.Calls.{Asked, place_key, place_block, clear, schedule, seal, unseal, read, counts, left, record_of, unready, Line, accepted}
+use Rattle.law.specs.Calls.{Asked, place_key, place_block, schedule, seal, unseal, read, Line, Answer, accepted}
 use Rattle.bench.specs.Model.{Model}
 use Rattle.law.specs.Book.{book}
 
@@ -26,43 +25,16 @@ count p [] = 0
 count p (x ∷ xs) = cond (accepted x.answer && p x.call) 1 0 + count p xs
 
 abbrev pub is_schedule : Asked → Bool
-is_schedule (place_key l bs) = false
-is_schedule (place_block l bs) = false
-is_schedule (clear l) = false
 is_schedule schedule = true
-is_schedule seal = false
-is_schedule unseal = false
-is_schedule (read l bs) = false
-is_schedule counts = false
-is_schedule left = false
-is_schedule (record_of l) = false
-is_schedule unready = false
+is_schedule _ = false
 
 abbrev pub is_seal : Asked → Bool
-is_seal (place_key l bs) = false
-is_seal (place_block l bs) = false
-is_seal (clear l) = false
-is_seal schedule = false
 is_seal seal = true
-is_seal unseal = false
-is_seal (read l bs) = false
-is_seal counts = false
-is_seal left = false
-is_seal (record_of l) = false
-is_seal unready = false
+is_seal _ = false
 
 abbrev pub is_open : Asked → Bool
-is_open (place_key l bs) = false
-is_open (place_block l bs) = false
-is_open (clear l) = false
-is_open schedule = false
-is_open seal = false
 is_open unseal = true
-is_open (read l bs) = false
-is_open counts = false
-is_open left = false
-is_open (record_of l) = false
-is_open unready = false
+is_open _ = false
 
 -- the gates at the making are those left, and those of the accepted plans
 abbrev pub Charged : ℕ → List Line → ℕ → Type 0

@@ -19,21 +19,19 @@ pub enum Call {
     Unready,
 }
 
+// What the unit tells where it accepts a call.
 #[derive(Clone, Copy)]
-pub enum Answer {
-    // not yet performed
-    Pending,
+pub enum Reply {
     Done,
-    Refused(Fault),
     Counts(Counts),
     Left(u32),
     Record(LaneRecord),
     Unready(Option<usize>),
 }
 
-// A call, and the answer that is written in place.
+// A call, and its answer once it is performed: a reply, or the fault for which it is refused.
 #[derive(Drop)]
 pub struct Entry {
     pub call: Call,
-    pub answer: Answer,
+    pub answer: Option<Result<Reply, Fault>>,
 }

@@ -2,54 +2,35 @@
 ghost use Rattle.std.specs.Prelude.{◌≡◌};
 ghost use Rattle.unit.specs.View.{made};
 ghost use Rattle.unit.specs.Held.{meaning, view};
-ghost use Rattle.law.specs.Calls.{line, lines, asks, asked, performed, next, log as logged, ran, done_answer, record_answer};
+ghost use Rattle.law.specs.Calls.{replied, lines, asks, asked, performed, next, log as logged, ran};
 ghost use Rattle.law.specs.Law.{Lawful, Isolated};
 ghost use Rattle.law.specs.Sound.{Sound, AllSound};
 
-use crate::calls::{Answer, Call, Entry};
+use crate::calls::{Call, Entry, Reply};
 use bench::benches::Bench;
 use bench::faults::Fault;
-use lanetable::records::LaneRecord;
 use unit::unit::CipherUnit;
 
-fn done_or(r: Result<(), Fault>) -> Answer
-    ensures { result ≡ done_answer r }
+// Performs one call on the unit, and gives its answer; a reading fills its buffer.
+fn perform<B: Bench>(unit: &mut CipherUnit<B>, call: &mut Call) -> Result<Reply, Fault>
+    ensures said { replied (asked call.new) result ≡ performed (view B.Bench unit.old) (asked call.old) }
+    ensures became { view B.Bench unit.new ≡ next (view B.Bench unit.old) (asked call.old) }
+    ensures sound { Sound (asked call.old) }
 {
-    match r {
-        Ok(()) => Answer::Done,
-        Err(f) => Answer::Refused(f),
+    match call {
+        Call::PlaceKey(lane, bytes) => unit.place_key(*lane, bytes.as_slice())?,
+        Call::PlaceBlock(lane, bytes) => unit.place_block(*lane, bytes.as_slice())?,
+        Call::Clear(lane) => unit.clear(*lane)?,
+        Call::Schedule => unit.schedule()?,
+        Call::Seal => unit.seal()?,
+        Call::Open => unit.open()?,
+        Call::Read(lane, buffer) => unit.read(*lane, buffer.as_mut_slice())?,
+        Call::Counts => return Ok(Reply::Counts(unit.counts())),
+        Call::Left => return Ok(Reply::Left(unit.left())),
+        Call::Record(lane) => return Ok(Reply::Record(unit.record(*lane)?)),
+        Call::Unready => return Ok(Reply::Unready(unit.unready())),
     }
-}
-
-fn record_or(r: Result<LaneRecord, Fault>) -> Answer
-    ensures { result ≡ record_answer r }
-{
-    match r {
-        Ok(x) => Answer::Record(x),
-        Err(f) => Answer::Refused(f),
-    }
-}
-
-// Performs one call, and writes its answer into the entry.
-fn perform<B: Bench>(unit: &mut CipherUnit<B>, entry: &mut Entry)
-    ensures said { line entry.new ≡ performed (view B.Bench unit.old) (asked entry.old.call) }
-    ensures became { view B.Bench unit.new ≡ next (view B.Bench unit.old) (asked entry.old.call) }
-    ensures sound { Sound (asked entry.old.call) }
-{
-    let answer = match &mut entry.call {
-        Call::PlaceKey(lane, bytes) => done_or(unit.place_key(*lane, bytes.as_slice())),
-        Call::PlaceBlock(lane, bytes) => done_or(unit.place_block(*lane, bytes.as_slice())),
-        Call::Clear(lane) => done_or(unit.clear(*lane)),
-        Call::Schedule => done_or(unit.schedule()),
-        Call::Seal => done_or(unit.seal()),
-        Call::Open => done_or(unit.open()),
-        Call::Read(lane, buffer) => done_or(unit.read(*lane, buffer.as_mut_slice())),
-        Call::Counts => Answer::Counts(unit.counts()),
-        Call::Left => Answer::Left(unit.left()),
-        Call::Record(lane) => record_or(unit.record(*lane)),
-        Call::Unready => Answer::Unready(unit.unready()),
-    };
-    entry.answer = answer;
+    Ok(Reply::Done)
 }
 
 // Makes a unit, performs the calls in order, and writes each answer into its entry.
@@ -61,7 +42,7 @@ pub fn run<B: Bench>(bench: B, log: &mut [Entry]) -> CipherUnit<B>
 {
     let mut unit = CipherUnit::new(bench);
     for entry in log.iter_mut() {
-        perform(&mut unit, entry);
+        entry.answer = Some(perform(&mut unit, &mut entry.call));
     }
     unit
 }

@@ -11,14 +11,14 @@ push_listed-requires c =
     let h = c.in-Ok.ensures in
     places_count c.args.bytes.now p.sockets p.scratch p.kinds.now p.places.now h.0 h.1
 
-pub returns-in-Ok : goal.returns-in-Ok
-returns-in-Ok c =
+pub returns : goal.returns
+returns c =
     let p = c.in-Ok.page in
     let h = c.in-Ok.ensures in
     pushed_as c.push_listed.result (vec_items c.args.out.now) (listed_text p.kinds.now p.places.now p.sockets p.scratch) (gates_text c.args.bytes.now) (vec_items c.push_listed.new.out)
     (listed_whole c.args.bytes.now p.sockets p.scratch p.kinds.now p.places.now h.0 h.1) c.push_listed.ensures
 
-pub returns-in-Err : goal.returns-in-Err
-returns-in-Err c =
+pub returns-in_default : goal.returns-in_default
+returns-in_default c =
     pushed_as c.push_text.result (vec_items c.args.out.now) (codes "These bytes are no whole page.\n") (gates_text c.args.bytes.now) (vec_items c.push_text.new.out)
-    (listed_not c.args.bytes.now c.in-Err.ensures.0) c.push_text.ensures
+    (listed_not c.args.bytes.now c.in_default.ensures.0) c.push_text.ensures
