@@ -1,7 +1,7 @@
 -- One turn written. Assumes nothing.
-use Rattle.std.proofs.Common.{◌≡◌, ℕ, ◌+◌, ◌<◌, ◌≤◌, List, [], ◌∷◌, ◌++◌, length, get_or, drop, sym, ap, ◌∙◌, ap₂, append_assoc, arith}
+use Rattle.std.proofs.Common.{◌≡◌, ℕ, ◌+◌, ◌<◌, ◌≤◌, List, [], ◌∷◌, ◌++◌, length, get_or, Err, drop, sym, ap, ◌∙◌, ap₂, append_assoc, arith}
 use Rattle.std.proofs.lemmas.List.{drop_more, drop_all}
-use Rattle.playing.specs.declared.answers.Answer.TheVariants.{Unreadable}
+use Rattle.playing.specs.declared.answers.Refusal.TheVariants.{Unreadable}
 use Rattle.playing.specs.Answers.{answer_line}
 use Rattle.law.specs.declared.calls.Entry.{Entry}
 use Rattle.law.specs.Calls.{line, lines}
@@ -10,10 +10,10 @@ use Rattle.consoling.specs.Answers.{answer_text}
 use Rattle.consoling.specs.Runs.{answers_text, Turned}
 
 module _ (es : List Entry) (next : ℕ) (was all : List ℕ) where
-  pub not_read : (n : ℕ) → next ≤ length es → all ≡ was ++ answer_line (Unreadable n) → Turned (turn.Unreadable n) es next next was all
+  pub not_read : (n : ℕ) → next ≤ length es → all ≡ was ++ answer_line (Err (Unreadable n)) → Turned (turn.Unreadable n) es next next was all
   not_read n h e = record {
     within = h;
-    text = λ ts. ap (λ (x : List ℕ). x ++ answers_text ts (lines (drop next es))) e ∙ append_assoc was (answer_line (Unreadable n)) (answers_text ts (lines (drop next es)));
+    text = λ ts. ap (λ (x : List ℕ). x ++ answers_text ts (lines (drop next es))) e ∙ append_assoc was (answer_line (Err (Unreadable n))) (answers_text ts (lines (drop next es)));
   }
 
   pub no_entry : next ≡ length es → was ≡ all → Turned turn.Call es next next was all

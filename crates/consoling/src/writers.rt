@@ -7,7 +7,7 @@ ghost use Rattle.consoling.specs.Runs.{answers_text, Turned};
 use crate::turns::Turn;
 use lanetable::records::{KeyState, LaneRecord};
 use law::calls::{Answer, Call, Entry};
-use playing::answers::Answer as Plain;
+use playing::answers::{Refusal, Reply};
 use playing::writers::push_answer as push_plain;
 use std::alloc::AllocError;
 use text::writes::{push_hex, push_number, push_text};
@@ -80,7 +80,7 @@ fn push_done(out: &mut Vec<u8>, call: &Call) -> Result<(), AllocError>
 {
     match call {
         Call::Read(_, bytes) => push_reading(out, bytes.as_slice()),
-        _ => push_plain(out, Plain::Done),
+        _ => push_plain(out, Ok(Reply::Done)),
     }
 }
 
@@ -91,9 +91,9 @@ pub fn push_answer(out: &mut Vec<u8>, entry: &Entry) -> Result<(), AllocError>
     match entry.answer {
         Answer::Pending => push_text(out, b"pending\n"),
         Answer::Done => push_done(out, &entry.call),
-        Answer::Refused(fault) => push_plain(out, Plain::Refused(fault)),
+        Answer::Refused(fault) => push_plain(out, Err(Refusal::Fault(fault))),
         Answer::Counts(counts) => push_counts(out, counts),
-        Answer::Left(gates) => push_plain(out, Plain::Left(gates)),
+        Answer::Left(gates) => push_plain(out, Ok(Reply::Left(gates))),
         Answer::Record(record) => push_record(out, record),
         Answer::Unready(lane) => push_unready(out, lane),
     }
@@ -106,7 +106,7 @@ fn push_turn(out: &mut Vec<u8>, turn: Turn, log: &[Entry], next: usize) -> Resul
 {
     match turn {
         Turn::Unreadable(number) => {
-            push_plain(out, Plain::Unreadable(number))?;
+            push_plain(out, Err(Refusal::Unreadable(number)))?;
             Ok(next)
         }
         Turn::Call => {
