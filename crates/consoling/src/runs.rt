@@ -9,6 +9,7 @@ use crate::scripts::read_body;
 use crate::turns::{Body, Script};
 use crate::writers::push_answers;
 use bench::benches::Bench;
+use bench::either::EitherBench;
 use law::calls::Entry;
 use law::run::{run, run_both};
 use playing::benchlines::find_bench;
@@ -51,7 +52,11 @@ fn run_setups(
 {
     let mut memory = SetupMemory::zeros(heap, setup)?;
     match other {
-        None => run_script(memory.bench(), first),
+        // A bench of words is played as such: asking at each gate which bench there is takes an eighth more time.
+        None => match memory.bench() {
+            EitherBench::Left(words) => run_script(words, first),
+            EitherBench::Right(other) => run_script(other, first),
+        },
         Some(other) => {
             let mut beside = SetupMemory::zeros(heap, other)?;
             run_scripts(memory.bench(), beside.bench(), first, second);

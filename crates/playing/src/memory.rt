@@ -14,9 +14,10 @@ use std::alloc::{AllocError, Global};
 
 pub type SingleBench<'a> = EitherBench<WordBench<'a>, RowBench<'a>>;
 
+// The commonest comes first: a bench of words alone, which a caller can take out and play at no cost for the choice.
 pub type SetupBench<'a> = EitherBench<
-    SingleBench<'a>,
-    SideBySide<SingleBench<'a>, SingleBench<'a>>,
+    WordBench<'a>,
+    EitherBench<RowBench<'a>, SideBySide<SingleBench<'a>, SingleBench<'a>>>,
 >;
 
 // The memory of one bench, and its allotment.
@@ -104,11 +105,14 @@ impl SetupMemory {
     {
         let first = self.first.bench();
         match &mut self.second {
-            None => EitherBench::Left(first),
             Some(memory) => {
                 let second = memory.bench();
-                EitherBench::Right(SideBySide { first, second })
+                EitherBench::Right(EitherBench::Right(SideBySide { first, second }))
             }
+            None => match first {
+                EitherBench::Left(words) => EitherBench::Left(words),
+                EitherBench::Right(rows) => EitherBench::Right(EitherBench::Left(rows)),
+            },
         }
     }
 }

@@ -12,6 +12,7 @@ use crate::readers::{is_silent, read_command};
 use crate::setups::Setup;
 use crate::writers::push_answer;
 use bench::benches::Bench;
+use bench::either::EitherBench;
 use std::alloc::{AllocError, Global};
 use text::lines::{Line, Lines};
 use text::writes::push_text;
@@ -82,7 +83,11 @@ fn run_setup(
     let Ok(mut memory) = SetupMemory::zeros(heap, setup) else {
         return push_no_memory(out);
     };
-    run(heap, &mut memory.bench(), lines, out)
+    // A bench of words is played as such: asking at each gate which bench there is takes an eighth more time.
+    match memory.bench() {
+        EitherBench::Left(mut words) => run(heap, &mut words, lines, out),
+        EitherBench::Right(mut other) => run(heap, &mut other, lines, out),
+    }
 }
 
 // What is written for a whole script.
