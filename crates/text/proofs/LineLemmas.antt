@@ -28,5 +28,9 @@ line_off [] h = absurd (omega arith)
 line_off (b ∷ []) h = line_more b [] refl
 line_off (b ∷ c ∷ bs) h = line_more b (c ∷ bs) (ap (on_first b) (line_off (c ∷ bs) (omega arith)))
 
+-- the same with the line and the rest that were split off
+pub line_split : (text line rest : List ℕ) → 0 < length text → line ≡ line_of text → rest ≡ after_line text → lines_in text ≡ line ∷ lines_in rest
+line_split text line rest some is after = line_off text some ∙ sym (ap₂ (λ (l r : List ℕ). l ∷ lines_in r) is after)
+
 pub after_shorter : (text : List ℕ) → 0 < length text → length (after_line text) < length text
 after_shorter text h = omega (arith, length-drop (before 10 text + 1) text)

@@ -2,7 +2,7 @@ use Rattle.std.proofs.Common.{[], ◌∷◌, ◌++◌, vec_items, codes, ap, ◌
 use Rattle.bench.specs.Faults.{number_of}
 use Rattle.playing.specs.Answers.{spaced, part_name}
 use Rattle.playing.proofs.Written.{refusal_pushed}
-use Rattle.playing.proofs.writers.push_refusal.Goals as goal
+use Rattle.playing.proofs.writers.push_fault.Goals as goal
 
 pub returns : goal.returns
 returns c =
