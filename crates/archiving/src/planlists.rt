@@ -107,8 +107,20 @@ pub(crate) fn push_plans(out: &mut Vec<u8>) -> Result<(), AllocError>
     push_text(out, SCHEDULING)?;
     push_schedule(out, Plan::Schedule.plays())?;
     push_text(out, SEALING)?;
-    push_rounds(out, Plan::Seal.plays(), &SEAL_FIRST, &SEAL_ROUND, &SEAL_LAST)?;
+    push_rounds(
+        out,
+        Plan::Seal.plays(),
+        &SEAL_FIRST,
+        &SEAL_ROUND,
+        &SEAL_LAST,
+    )?;
     push_text(out, OPENING)?;
-    push_rounds(out, Plan::Open.plays(), &OPEN_FIRST, &OPEN_ROUND, &OPEN_LAST)?;
+    push_rounds(
+        out,
+        Plan::Open.plays(),
+        &OPEN_FIRST,
+        &OPEN_ROUND,
+        &OPEN_LAST,
+    )?;
     Ok(())
 }
