@@ -1,10 +1,9 @@
 -- A page's listing from its arrays, and how its checks are chosen. Assumes nothing.
-use Rattle.std.proofs.Common.{◌≡◌, ℕ, ◌+◌, ◌*◌, ◌<◌, ◌≤◌, true, false, cond, leb, List, ◌++◌, map, length, codes, sym, ap, ◌∙◌, ap₂}
-use Rattle.std.specs.List.{range_with_len}
+use Rattle.std.proofs.Common.{◌≡◌, ℕ, ◌+◌, ◌*◌, ◌<◌, ◌≤◌, true, false, cond, leb, List, ◌++◌, length, codes, sym, ap, ◌∙◌, ap₂}
 use Rattle.std.proofs.lemmas.Bool.{and_from, and_left, and_right, le-leb, lt-leb}
 use Rattle.bench.specs.declared.gates.Gate.{Gate}
-use Rattle.player.specs.Pages.{whole, ReadAs, gate_at, gates_of, gates_in, sockets_in, scratch_in}
-use Rattle.player.proofs.Played.{kinds_count}
+use Rattle.player.specs.Pages.{whole, ReadAs, gates_from, gates_of, gates_in, sockets_in, scratch_in}
+use Rattle.player.proofs.Played.{kinds_count, gates_whole}
 use Rattle.archiving.specs.Listings.{only_sums, masks_text, columns_text, sizes_text, checks_text, listed_text, gates_text}
 
 pub many_sockets : (q c : ℕ) (gs : List Gate) → 8 < q → columns_text (8 * q + c) gs ≡ checks_text q c gs
@@ -17,14 +16,13 @@ pub by_columns_lem : (q c : ℕ) (gs : List Gate) → only_sums gs ≡ false →
 by_columns_lem q c gs e = sym (ap (λ b. cond b (masks_text q (8 * q + c) gs) (columns_text (8 * q + c) gs)) (and_right (leb q 8) (only_sums gs) e))
 
 pub listed_whole : (bytes : List ℕ) (q c : ℕ) (kinds places : List ℕ) → whole bytes ≡ true → ReadAs bytes q c kinds places → listed_text kinds places q c ≡ gates_text bytes
-unfolding gates_text gates_of
+unfolding gates_text
 listed_whole bytes q c kinds places w r =
     let n : length kinds ≡ gates_in bytes = kinds_count bytes q c kinds places w r in
     let sized : sizes_text (length kinds) q c ≡ sizes_text (gates_in bytes) (sockets_in bytes) (scratch_in bytes) =
     ap (λ k. sizes_text k q c) n ∙ ap₂ (λ x y. sizes_text (gates_in bytes) x y) r.sockets r.scratch in
-    let gates : map (gate_at kinds places) (range_with_len 0 (length kinds)) ≡ gates_of bytes =
-    ap (λ k. map (gate_at kinds places) (range_with_len 0 k)) n ∙ ap₂ (λ x y. map (gate_at x y) (range_with_len 0 (gates_in bytes))) r.kinds_are r.places_are in
-    let checked : checks_text q c (map (gate_at kinds places) (range_with_len 0 (length kinds))) ≡ checks_text (sockets_in bytes) (scratch_in bytes) (gates_of bytes) =
+    let gates = gates_whole bytes q c kinds places w r in
+    let checked : checks_text q c (gates_from kinds places) ≡ checks_text (sockets_in bytes) (scratch_in bytes) (gates_of bytes) =
     ap (λ gs. checks_text q c gs) gates ∙ ap₂ (λ x y. checks_text x y (gates_of bytes)) r.sockets r.scratch in
     ap₂ (λ x y. x ++ y) sized checked
     ∙ sym (ap (λ b. cond b (sizes_text (gates_in bytes) (sockets_in bytes) (scratch_in bytes) ++ checks_text (sockets_in bytes) (scratch_in bytes) (gates_of bytes)) (codes "These bytes are no whole page.\n")) w)

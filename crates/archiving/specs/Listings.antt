@@ -5,11 +5,11 @@
 --   gates_text bytes    the sizes and the gates of a page, given as bytes
 --   play_lines i ps     a line for each play; the first has the index i
 use Rattle.std.specs.Prelude.{ℕ, ◌+◌, ◌*◌, Bool, true, false, cond, ◌&&◌, List, [], ◌∷◌, ◌++◌, map, length, codes, ◌==◌, nat_le}
-use Rattle.std.specs.List.{range_with_len, list_all}
+use Rattle.std.specs.List.{list_all}
 use Rattle.bench.specs.declared.gates.Gate.{Gate}
 use Rattle.bench.specs.declared.kinds.Kind.{Kind}
 use Rattle.bench.specs.declared.kinds.Kind.TheVariants.{Xor, And, Or, Xnor, Nand, Nor}
-use Rattle.player.specs.Pages.{whole, gate_at, gates_of, gates_in, sockets_in, scratch_in}
+use Rattle.player.specs.Pages.{whole, gates_from, gates_of, gates_in, sockets_in, scratch_in}
 use Rattle.plans.specs.declared.plays.Play.{Play}
 use Rattle.text.specs.Text.{decimal}
 use Rattle.archiving.specs.Traces.{made_by, stepped, unit_words, input_words}
@@ -54,7 +54,7 @@ checks_text q c gs = cond (nat_le q 8 && only_sums gs) (masks_text q (8 * q + c)
 
 -- the same from the two arrays of a page
 abbrev pub listed_text : List ℕ → List ℕ → ℕ → ℕ → List ℕ
-listed_text kinds places q c = sizes_text (length kinds) q c ++ checks_text q c (map (gate_at kinds places) (range_with_len 0 (length kinds)))
+listed_text kinds places q c = sizes_text (length kinds) q c ++ checks_text q c (gates_from kinds places)
 
 unfoldable pub gates_text : List ℕ → List ℕ
 gates_text bytes = cond (whole bytes)

@@ -12,7 +12,7 @@ use crate::prose::{
 use coordinates::basis::{from_coordinates, to_coordinates};
 use plans::pages::INVERT;
 use plans::plays::Play;
-use plans::tables::{open_gates, schedule_gates, seal_gates};
+use plans::tables::Plan;
 use std::alloc::{AllocError, Global};
 use text::reads::split_word;
 use text::writes::{push_hex, push_number, push_text};
@@ -80,9 +80,9 @@ fn push_count(out: &mut Vec<u8>, name: &[u8], gates: u32) -> Result<(), AllocErr
 
 fn push_counts(out: &mut Vec<u8>) -> Result<(), AllocError> {
     push_text(out, COUNTS)?;
-    push_count(out, b"  K, scheduling: ", schedule_gates())?;
-    push_count(out, b"  S, sealing:    ", seal_gates())?;
-    push_count(out, b"  O, opening:    ", open_gates())
+    push_count(out, b"  K, scheduling: ", Plan::Schedule.gates())?;
+    push_count(out, b"  S, sealing:    ", Plan::Seal.gates())?;
+    push_count(out, b"  O, opening:    ", Plan::Open.gates())
 }
 
 // What stands before the pages.

@@ -6,7 +6,7 @@ use coordinates::basis::from_coordinates;
 use lane::{place_bytes, read_bytes};
 use plans::pages::INVERT;
 use plans::runs::play_plan;
-use plans::tables::{open_plan, schedule_plan, seal_plan};
+use plans::tables::Plan;
 use std::alloc::{AllocError, Global};
 use text::writes::{push_hex, push_number, push_text};
 
@@ -36,7 +36,7 @@ fn plain(coordinates: &[u8; 16]) -> [u8; 16] {
 fn round_keys<B: Bench>(bench: &mut B, key: &[u8; 16]) -> Result<[[u8; 16]; 11], Fault> {
     let mut keys = [[0u8; 16]; 11];
     place_bytes(bench, 128, 0, key)?;
-    play_plan(bench, &INVERT, schedule_plan())?;
+    play_plan(bench, &INVERT, Plan::Schedule.plays())?;
     for (n, key) in keys.iter_mut().enumerate() {
         *key = shown(bench, 128 * (n as u16 + 1))?;
     }
@@ -47,7 +47,7 @@ fn round_keys<B: Bench>(bench: &mut B, key: &[u8; 16]) -> Result<[[u8; 16]; 11],
 fn stages<B: Bench>(bench: &mut B, block: &[u8; 16]) -> Result<[[u8; 16]; 11], Fault> {
     let mut states = [[0u8; 16]; 11];
     place_bytes(bench, 0, 0, block)?;
-    let mut rest = seal_plan();
+    let mut rest = Plan::Seal.plays();
     for (plays, state) in STAGE_PLAYS.iter().zip(states.iter_mut()) {
         let (stage, later) = rest.split_at(rest.len().min(*plays));
         play_plan(bench, &INVERT, stage)?;
@@ -68,7 +68,7 @@ fn play_example(words: &mut [u64]) -> Result<Worked, Fault> {
     let mut bench = WordBench::new(words, MOST_GATES);
     let keys = round_keys(&mut bench, &KEY)?;
     let states = stages(&mut bench, &BLOCK)?;
-    play_plan(&mut bench, &INVERT, open_plan())?;
+    play_plan(&mut bench, &INVERT, Plan::Open.plays())?;
     let opened = shown(&bench, 0)?;
     Ok(Worked {
         keys,

@@ -4,7 +4,6 @@
 pub mod archives;
 mod cursors;
 mod examples;
-mod gates;
 mod lines;
 pub mod listings;
 mod names;

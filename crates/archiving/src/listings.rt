@@ -1,9 +1,9 @@
 // Pages gate by gate, and plans play by play: each function appends to what `out` holds.
 ghost use Rattle.std.specs.Prelude.{◌≡◌, ℕ, ◌+◌, ◌*◌, ◌^◌, ◌<◌, ◌≤◌, ◌++◌, map, length, drop, IfOk, OnOk, vec_items};
+ghost use Rattle.player.specs.Pages.{gates_from};
 ghost use Rattle.archiving.specs.Traces.{made_by, stepped, unit_word, unit_words, filled, input_word, input_words};
 ghost use Rattle.archiving.specs.Listings.{sums, only_sums, mask_lines, column_lines, masks_text, columns_text, sizes_text, checks_text, listed_text, gates_text, play_lines};
 
-use crate::gates::list_gates;
 use crate::lines::{push_column_line, push_mask_line, push_play};
 use crate::traces::do_gate;
 use bench::gates::Gate;
@@ -185,11 +185,20 @@ fn push_checks(
     }
 }
 
+fn list_gates(heap: Global, page: &Page<'_>) -> Result<Vec<Gate>, AllocError>
+    ensures { IfOk result (λ v. v.items ≡ gates_from page.now.kinds.now page.now.places.now) }
+{
+    let mut gates = Vec::new(heap);
+    for gate in page.gates() {
+        gates.push(gate)?;
+    }
+    Ok(gates)
+}
+
 fn push_listed(heap: Global, out: &mut Vec<u8>, page: &Page<'_>) -> Result<(), AllocError>
-    requires { length page.now.places.now ≡ 6 * length page.now.kinds.now }
     ensures { OnOk result (out.new.items ≡ out.old.items ++ listed_text page.now.kinds.now page.now.places.now page.now.sockets page.now.scratch) }
 {
-    let gates = list_gates(heap, page.kinds, page.places)?;
+    let gates = list_gates(heap, page)?;
     push_sizes(out, page.kinds.len(), page.sockets, page.scratch)?;
     push_checks(heap, out, gates.as_slice(), page.sockets, page.scratch)
 }

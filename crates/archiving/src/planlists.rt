@@ -11,7 +11,7 @@ use crate::steps::{
     SEAL_LAST, SEAL_ROUND,
 };
 use plans::plays::Play;
-use plans::tables::{open_plan, schedule_plan, seal_plan};
+use plans::tables::Plan;
 use std::alloc::AllocError;
 use std::ops::Range;
 use text::writes::{push_number, push_text};
@@ -105,10 +105,22 @@ pub(crate) fn push_plans(out: &mut Vec<u8>) -> Result<(), AllocError>
     ensures { OnOk result (Extends every_play out.old.items out.new.items) }
 {
     push_text(out, SCHEDULING)?;
-    push_schedule(out, schedule_plan())?;
+    push_schedule(out, Plan::Schedule.plays())?;
     push_text(out, SEALING)?;
-    push_rounds(out, seal_plan(), &SEAL_FIRST, &SEAL_ROUND, &SEAL_LAST)?;
+    push_rounds(
+        out,
+        Plan::Seal.plays(),
+        &SEAL_FIRST,
+        &SEAL_ROUND,
+        &SEAL_LAST,
+    )?;
     push_text(out, OPENING)?;
-    push_rounds(out, open_plan(), &OPEN_FIRST, &OPEN_ROUND, &OPEN_LAST)?;
+    push_rounds(
+        out,
+        Plan::Open.plays(),
+        &OPEN_FIRST,
+        &OPEN_ROUND,
+        &OPEN_LAST,
+    )?;
     Ok(())
 }

@@ -1,24 +1,10 @@
 // Gates on words: word n is what number n of a page holds, in 64 cases side by side, bit l in case l.
 ghost use Rattle.std.specs.Prelude.{◌≡◌, ℕ, ◌<◌, length, slice_index};
 ghost use Rattle.bench.specs.Kinds.{gate_result};
-ghost use Rattle.bench.specs.Word.{combined, test_bit};
+ghost use Rattle.bench.specs.Word.{test_bit};
 ghost use Rattle.archiving.specs.Traces.{made_by, stepped};
 
 use bench::gates::Gate;
-use bench::kinds::Kind;
-
-fn combine(kind: Kind, x: u64, y: u64) -> u64
-    ensures { result ≡ combined kind x y }
-{
-    match kind {
-        Kind::Xor => x ^ y,
-        Kind::And => x & y,
-        Kind::Or => x | y,
-        Kind::Xnor => !(x ^ y),
-        Kind::Nand => !(x & y),
-        Kind::Nor => !(x | y),
-    }
-}
 
 fn word_at(words: &[u64], number: u16) -> u64
     ensures { result ≡ slice_index words.now number }
@@ -32,11 +18,9 @@ pub fn do_gate(words: &mut [u64], gate: Gate) -> u64
     ensures leaves { words.new ≡ stepped gate words.old }
     ensures cases { (l : ℕ) → l < 64 → test_bit result l ≡ gate_result gate.kind (test_bit (slice_index words.old gate.first) l) (test_bit (slice_index words.old gate.second) l) }
 {
-    let word = combine(
-        gate.kind,
-        word_at(words, gate.first),
-        word_at(words, gate.second),
-    );
+    let word = gate
+        .kind
+        .on_words(word_at(words, gate.first), word_at(words, gate.second));
     if (gate.target as usize) < words.len() {
         words[gate.target as usize] = word;
     }

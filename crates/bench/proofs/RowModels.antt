@@ -1,28 +1,15 @@
 -- What writes of bytes are to a row bench's meaning. Assumes nothing.
-use Rattle.std.proofs.Common.{◌≡◌, ℕ, zero, suc, ◌+◌, ◌-◌, ◌*◌, ◌/◌, ◌%◌, ◌^◌, ◌<◌, ◌≤◌, min, Bool, true, false, cond, not, ◌&&◌, ◌||◌, eqb, ltb, List, length, get_or, drop, set, sym, refl, ap, ◌∙◌, ap₂, inl, inr, mul-le-mul_right, suc-mul, div-mul-le_self, arith, length-set}
+use Rattle.std.proofs.Common.{◌≡◌, ℕ, zero, suc, ◌+◌, ◌-◌, ◌*◌, ◌/◌, ◌%◌, ◌<◌, ◌≤◌, min, Bool, true, false, cond, ◌&&◌, eqb, ltb, List, length, get_or, drop, set, sym, refl, ap, ◌∙◌, ap₂, inl, inr, mul-le-mul_right, suc-mul, div-mul-le_self, arith, length-set}
 use lib.Arith.{digits_lt, digits_div}
-use Rattle.std.proofs.lemmas.Nat.{pow_below}
 use Rattle.std.proofs.lemmas.List.{get_or-set_same, get_or-set_other, drop-set-lt}
 use Rattle.std.proofs.lemmas.Bool.{cases_Bool, cases_eq, ltb-true, ltb-false, lt-ltb, le-ltb, eqb-true, eqb-false, eq-eqb, ne_eqb}
 use Rattle.bench.specs.Model.{written, gated}
 use Rattle.bench.specs.Kinds.{gate_result}
-use Rattle.bench.specs.Word.{test_bit}
-use Rattle.bench.specs.Row.{fit, row_lanes, spot, row_cell, row_model, rest, put_byte, row_put, rows_done}
+use Rattle.bench.specs.Word.{put_bit, test_bit}
+use Rattle.bench.specs.Row.{fit, row_lanes, spot, row_cell, row_model, rest, row_put, rows_done}
 use Rattle.bench.specs.declared.kinds.Kind.{Kind}
-use Rattle.bench.proofs.WordBits.{turned_digit, digit_not, or_power, and_power, test_or, test_and, test_power}
+use Rattle.bench.proofs.WordBits.{test_put}
 use Rattle.bench.proofs.WordModels.{same_model}
-
-test_turned_byte : (x l : ℕ) → l < 8 → x < 2 ^ 8 → test_bit ((2 ^ 8 - 1) - x) l ≡ not (test_bit x l)
-unfolding test_bit
-test_turned_byte x l p q = ap (λ n. eqb n 1) (turned_digit 8 l x p q) ∙ digit_not (x / 2 ^ l % 2) (omega arith)
-
--- each bit of a byte with one bit put
-pub test_put_byte : (x k : ℕ) (v : Bool) (j : ℕ) → k < 8 → j < 8 → test_bit (put_byte x k v) j ≡ cond (eqb j k) v (test_bit x j)
-test_put_byte x k true j p q = test_or x (2 ^ k) j ∙ ap (λ e. test_bit x j || e) (test_power k j) ∙ or_power (test_bit x j) (eqb j k)
-test_put_byte x k false j p q =
-    test_and x ((2 ^ 8 - 1) - 2 ^ k) j
-    ∙ ap (λ e. test_bit x j && e) (test_turned_byte (2 ^ k) j q (pow_below k 8 p) ∙ ap not (test_power k j))
-    ∙ and_power (test_bit x j) (eqb j k)
 
 -- a register's byte lies in its row
 pub in_row : (r w : ℕ) → r < 8 * w → r / 8 < w
@@ -43,7 +30,7 @@ module _ (w : ℕ) where
     pub spot_put : (r l : ℕ) → r / 8 < w → spot (row_put bytes (m * w) t v) (l * w) r ≡ cond (eqb r t && eqb l m) v (spot bytes (l * w) r)
     spot_put r l hr =
         let at : ℕ = m * w + t / 8 in
-        let new : ℕ = put_byte (get_or bytes at 0) (t % 8) v in
+        let new : ℕ = put_bit (get_or bytes at 0) (t % 8) v in
         let other : (l * w + r / 8 ≡ at → ⊥) → spot (set bytes at new) (l * w) r ≡ spot bytes (l * w) r =
         λ ne. ap (λ x. test_bit x (r % 8)) (get_or-set_other bytes at (l * w + r / 8) new 0 ne) in
         elim (cases_Bool (eqb l m)) [
@@ -59,7 +46,7 @@ module _ (w : ℕ) where
                     let now : spot (set bytes at new) (l * w) r ≡ cond (eqb (r % 8) (t % 8)) v (test_bit (get_or bytes at 0) (r % 8)) =
                     ap (λ n. test_bit (get_or (set bytes at new) n 0) (r % 8)) here
                     ∙ ap (λ x. test_bit x (r % 8)) (get_or-set_same bytes at new 0 within)
-                    ∙ test_put_byte (get_or bytes at 0) (t % 8) v (r % 8) (omega arith) (omega arith) in
+                    ∙ test_put (get_or bytes at 0) (t % 8) v (r % 8) (omega arith) (omega arith) in
                     elim (cases_Bool (eqb r t)) [
                       | inl d ↦ let d' : eqb (r % 8) (t % 8) ≡ true = eq-eqb (r % 8) (t % 8) (ap (λ n. n % 8) (eqb-true r t d)) in now ∙ simp (d, e, d')
                       | inr d ↦

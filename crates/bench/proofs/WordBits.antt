@@ -1,8 +1,11 @@
 -- Single bits of words: what the operations on words do to each. Assumes nothing.
-use Rattle.std.proofs.Common.{◌≡◌, ℕ, zero, suc, ◌-◌, ◌/◌, ◌%◌, ◌^◌, ◌<◌, Bool, true, false, cond, not, ◌&&◌, ◌||◌, eqb, sym, refl, ap, ◌∙◌, pow-suc, one-add, arith}
+use Rattle.std.proofs.Common.{◌≡◌, ℕ, zero, suc, ◌-◌, ◌/◌, ◌%◌, ◌^◌, ◌<◌, ◌≤◌, Bool, true, false, cond, not, ◌&&◌, ◌||◌, eqb, sym, refl, ap, ap₂, ◌∙◌, pow-suc, one-add, arith}
 use lib.Dec.{eqb-zero-suc, eqb-suc-zero, eqb-suc-suc}
 use lib.Bits.{bit_and, bit_or, bit_xor, xor_shr, and_shr, or_shr, xor_mod, and_mod, or_mod, xor_lt, and_lt, or_lt}
-use Rattle.std.proofs.lemmas.Nat.{shr-shr, pow_below}
+use Rattle.std.proofs.lemmas.Nat.{shr-shr, pow_below, and_le_l}
+use Rattle.std.specs.Int.{from_bool}
+use Rattle.std.proofs.Math.Nat.{div-eq_of_lt}
+use Rattle.std.proofs.Math.Pow.{pow_mono}
 use Rattle.bench.specs.Kinds.{apart, gate_result}
 use Rattle.bench.specs.Word.{test_bit, turned, combined, put_bit}
 use Rattle.bench.specs.declared.kinds.Kind.{Kind}
@@ -110,3 +113,29 @@ test_put w l false j p q =
     test_and w (turned (2 ^ l)) j
     ∙ ap (λ e. test_bit w j && e) (test_turned (2 ^ l) j q (pow_below l 64 p) ∙ ap not (test_power l j))
     ∙ and_power (test_bit w j) (eqb j l)
+
+-- past the highest bit of a word none is set
+pub no_bit : (x l : ℕ) → 64 ≤ l → x < 2 ^ 64 → test_bit x l ≡ false
+unfolding test_bit
+no_bit x l h p = ap (λ n. eqb (n % 2) 1) (div-eq_of_lt {n = x} {m = 2 ^ l} (omega (arith, p, pow_mono h)))
+
+-- a byte with one bit put is a byte
+pub put_small : (x l : ℕ) (v : Bool) → l < 8 → x < 2 ^ 8 → put_bit x l v < 2 ^ 8
+put_small x l true h p = or_lt 8 x (2 ^ l) p (pow_below l 8 h)
+put_small x l false h p = omega (arith, p, and_le_l x (turned (2 ^ l)))
+
+-- a bit as a number
+pub lowest : (b : Bool) → test_bit (from_bool b) 0 ≡ b
+unfolding test_bit
+lowest true = refl
+lowest false = refl
+
+pub from_bool_small : (b : Bool) → from_bool b < 2 ^ 64
+from_bool_small true = omega arith
+from_bool_small false = omega arith
+
+-- what a gate makes of two bits
+pub test_bits : (k : Kind) (x y : Bool) → test_bit (combined k (from_bool x) (from_bool y)) 0 ≡ gate_result k x y
+test_bits k x y =
+    test_combined k (from_bool x) (from_bool y) 0 (from_bool_small x) (from_bool_small y) (omega arith)
+    ∙ ap₂ (gate_result k) (lowest x) (lowest y)

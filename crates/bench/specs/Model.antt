@@ -1,6 +1,7 @@
 -- The whole meaning of a bench, and what its calls answer and leave. Assumes nothing.
 use Rattle.std.specs.Prelude.{◌≡◌, ℕ, ◌+◌, ◌-◌, ◌≤◌, min, Bool, false, cond, ◌&&◌, List, Ok, Err, Result, ◌==◌, nat_lt}
 use Rattle.bench.specs.declared.faults.Question.TheVariants.{Register, Lane, Gates}
+use Rattle.bench.specs.declared.faults.Part.{Part}
 use Rattle.bench.specs.declared.faults.Part.TheVariants.{Bench}
 use Rattle.bench.specs.declared.faults.Fault.{Fault}
 use Rattle.bench.specs.declared.kinds.Kind.{Kind}
@@ -33,21 +34,32 @@ pub record Lawful (m : Model) : Type 0 where
   pub allotted : m.left ≤ 1000000000
   pub blank : (r l : ℕ) → (nat_lt r m.registers && nat_lt l m.lanes) ≡ false → m.bit r l ≡ false
 
--- the first register at fault, if any, and then the answer
-abbrev pub within : {X : Type 0} → Model → ℕ → Result X Fault → Result X Fault
-within m r next = cond (nat_lt r m.registers) next (Err (fault Register Bench r))
+-- the fault of the register r, of which there are n, if it is none of them, and else the answer that follows
+abbrev pub within : {X : Type 0} → ℕ → ℕ → Result X Fault → Result X Fault
+within n r next = cond (nat_lt r n) next (Err (fault Register Bench r))
 
-abbrev pub in_lane : {X : Type 0} → Model → ℕ → Result X Fault → Result X Fault
-in_lane m l next = cond (nat_lt l m.lanes) next (Err (fault Lane Bench l))
+-- the same of the lane l
+abbrev pub in_lane : {X : Type 0} → ℕ → ℕ → Result X Fault → Result X Fault
+in_lane n l next = cond (nat_lt l n) next (Err (fault Lane Bench l))
+
+-- so many gates for a part, where so many are left
+abbrev pub gates_answer : Part → ℕ → ℕ → Result (Unit {0}) Fault
+gates_answer who needed left = cond (nat_lt left needed) (Err (fault Gates who (needed - left))) (Ok tt)
+
+abbrev pub spot_answer : ℕ → ℕ → ℕ → ℕ → Result (Unit {0}) Fault
+spot_answer registers lanes r l = within registers r (in_lane lanes l (Ok tt))
+
+abbrev pub step_answer : ℕ → ℕ → ℕ → ℕ → ℕ → Result (Unit {0}) Fault
+step_answer registers left t a b = within registers t (within registers a (within registers b (cond (nat_lt 0 left) (Ok tt) (Err (fault Gates Bench 1)))))
 
 abbrev pub show_answer : Model → ℕ → ℕ → Result Bool Fault
-show_answer m r l = within m r (in_lane m l (Ok (m.bit r l)))
+show_answer m r l = within m.registers r (in_lane m.lanes l (Ok (m.bit r l)))
 
 abbrev pub set_answer : Model → ℕ → ℕ → Result (Unit {0}) Fault
-set_answer m r l = within m r (in_lane m l (Ok tt))
+set_answer m r l = spot_answer m.registers m.lanes r l
 
 abbrev pub gate_answer : Model → ℕ → ℕ → ℕ → Result (Unit {0}) Fault
-gate_answer m t a b = within m t (within m a (within m b (cond (nat_lt 0 m.left) (Ok tt) (Err (fault Gates Bench 1)))))
+gate_answer m t a b = step_answer m.registers m.left t a b
 
 -- one bit altered
 unfoldable pub written : ℕ → ℕ → Bool → Model → Model

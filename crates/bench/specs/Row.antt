@@ -1,11 +1,11 @@
 -- The row bench: lane l is row l of w bytes, register r is bit r % 8 of byte r / 8 of that row. Assumes nothing.
-use Rattle.std.specs.Prelude.{ℕ, zero, suc, ◌+◌, ◌-◌, ◌*◌, ◌/◌, ◌%◌, ◌^◌, ◌≤◌, min, Bool, true, false, cond, ◌&&◌, List, length, drop, bit_and, bit_or, nat_lt, slice_index, slice_set}
+use Rattle.std.specs.Prelude.{ℕ, zero, suc, ◌+◌, ◌*◌, ◌/◌, ◌%◌, ◌≤◌, min, Bool, false, cond, ◌&&◌, List, length, drop, nat_lt, slice_index, slice_set}
 use Rattle.std.proofs.Common.{arith}
 use Rattle.std.proofs.lemmas.Bool.{cond_both, ltb-false}
 use Rattle.bench.specs.declared.kinds.Kind.{Kind}
 use Rattle.bench.specs.Kinds.{gate_result}
 use Rattle.bench.specs.Model.{Model, Lawful}
-use Rattle.bench.specs.Word.{test_bit}
+use Rattle.bench.specs.Word.{put_bit, test_bit}
 
 -- the bytes of a row: none where more are asked for than a bench can have
 abbrev pub fit : ℕ → ℕ
@@ -38,13 +38,9 @@ row_model bytes width left = record {
 unfoldable pub rest : List ℕ → ℕ → List ℕ
 rest bytes width = drop (row_lanes (length bytes) (fit width) * fit width) bytes
 
-abbrev pub put_byte : ℕ → ℕ → Bool → ℕ
-put_byte x k true = bit_or x (2 ^ k)
-put_byte x k false = bit_and x ((2 ^ 8 - 1) - 2 ^ k)
-
 -- one register written in the row that begins at base
 abbrev pub row_put : List ℕ → ℕ → ℕ → Bool → List ℕ
-row_put bytes base r v = slice_set bytes (base + r / 8) (put_byte (slice_index bytes (base + r / 8)) (r % 8) v)
+row_put bytes base r v = slice_set bytes (base + r / 8) (put_bit (slice_index bytes (base + r / 8)) (r % 8) v)
 
 -- one gate in the row that begins at base
 abbrev pub row_step : Kind → ℕ → ℕ → ℕ → ℕ → List ℕ → List ℕ

@@ -6,7 +6,7 @@ ghost use Rattle.std.specs.Prelude.{◌≡◌, ℕ};
 ghost use Rattle.bench.specs.Model.{Shown, told, Lawful, Memory, lanes_in, show_answer, set_answer, gate_answer, written, gated, written_in, gated_in, after};
 
 use crate::faults::Fault;
-use crate::kinds::Kind;
+use crate::gates::Gate;
 
 pub trait Bench {
     ghost registers: { Self → ℕ };
@@ -46,8 +46,8 @@ pub trait Bench {
         ensures beneath { beneath self.new ≡ after result (written_in register lane value (beneath self.old)) (beneath self.old) };
 
     // In every lane the target then shows the kind's result on what the operands showed before, for one gate.
-    fn gate(&mut self, kind: Kind, target: u16, a: u16, b: u16) -> Result<(), Fault>
-        ensures answer { result ≡ gate_answer (told registers lanes left shows self.old) target a b }
-        ensures leaves { told registers lanes left shows self.new ≡ after result (gated kind target a b (told registers lanes left shows self.old)) (told registers lanes left shows self.old) }
-        ensures beneath { beneath self.new ≡ after result (gated_in kind target a b (beneath self.old)) (beneath self.old) };
+    fn gate(&mut self, gate: Gate) -> Result<(), Fault>
+        ensures answer { result ≡ gate_answer (told registers lanes left shows self.old) gate.target gate.first gate.second }
+        ensures leaves { told registers lanes left shows self.new ≡ after result (gated gate.kind gate.target gate.first gate.second (told registers lanes left shows self.old)) (told registers lanes left shows self.old) }
+        ensures beneath { beneath self.new ≡ after result (gated_in gate.kind gate.target gate.first gate.second (beneath self.old)) (beneath self.old) };
 }

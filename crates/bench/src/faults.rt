@@ -2,7 +2,7 @@
 ghost use Rattle.std.specs.Prelude.{◌≡◌};
 ghost use Rattle.bench.specs.Faults.{number_of, fault};
 
-#[derive(Clone, Copy)]
+#[derive(Clone, Copy, Debug, PartialEq, Eq)]
 pub enum Question {
     // at least 2,048 registers, and 1 to 128 lanes
     Size,
@@ -26,7 +26,27 @@ pub enum Question {
     Gates,
 }
 
-#[derive(Clone, Copy)]
+impl From<Question> for u8 {
+    ghost from_gives = { λ question number. number ≡ number_of question };
+
+    // The question's number.
+    fn from(question: Question) -> u8 {
+        match question {
+            Question::Size => 1,
+            Question::Whole => 2,
+            Question::Bases => 3,
+            Question::Register => 4,
+            Question::Lane => 5,
+            Question::Sixteen => 6,
+            Question::Block => 7,
+            Question::Work => 8,
+            Question::Scheduled => 9,
+            Question::Gates => 10,
+        }
+    }
+}
+
+#[derive(Clone, Copy, Debug, PartialEq, Eq)]
 pub enum Part {
     Bench,
     Player,
@@ -34,7 +54,7 @@ pub enum Part {
     Reader,
 }
 
-#[derive(Clone, Copy)]
+#[derive(Clone, Copy, Debug, PartialEq, Eq)]
 pub struct Fault {
     pub question: Question,
     pub part: Part,
@@ -79,17 +99,6 @@ impl Fault {
     pub fn number(&self) -> u8
         ensures { result ≡ number_of self.now.question }
     {
-        match self.question {
-            Question::Size => 1,
-            Question::Whole => 2,
-            Question::Bases => 3,
-            Question::Register => 4,
-            Question::Lane => 5,
-            Question::Sixteen => 6,
-            Question::Block => 7,
-            Question::Work => 8,
-            Question::Scheduled => 9,
-            Question::Gates => 10,
-        }
+        u8::from(self.question)
     }
 }

@@ -2,13 +2,14 @@
 // bit r mod 8, lowest first, of byte r / 8 of that row. Bytes beyond the last whole row of the first 64 are never touched.
 ghost use Rattle.std.specs.Prelude.{◌≡◌, ◌+◌, ◌*◌, ◌/◌, ◌^◌, ◌<◌, ◌≤◌, min, [], ◌∷◌, length, refl};
 ghost use Rattle.bench.specs.Model.{part};
-ghost use Rattle.bench.specs.Kinds.{gate_result};
-ghost use Rattle.bench.specs.Word.{test_bit};
-ghost use Rattle.bench.specs.Row.{fit, row_lanes, row_bit, row_model, rest, put_byte, row_step, rows_done, row_lawful};
+ghost use Rattle.bench.specs.Word.{put_bit};
+ghost use Rattle.bench.specs.Row.{fit, row_lanes, row_bit, row_model, rest, row_step, rows_done, row_lawful};
 
+use crate::asks::{ask_gate, ask_spot};
 use crate::benches::Bench;
-use crate::faults::{Fault, Part};
-use crate::kinds::Kind;
+use crate::bits::{put_bit, test_bit};
+use crate::faults::Fault;
+use crate::gates::Gate;
 use crate::word::MOST_GATES;
 
 pub const MOST_WIDTH: usize = 8_191;
@@ -83,55 +84,39 @@ impl<'a> RowBench<'a> {
     }
 }
 
-fn outcome(kind: Kind, x: bool, y: bool) -> bool
-    ensures { result ≡ gate_result kind x y }
-{
-    match kind {
-        Kind::Xor => x != y,
-        Kind::And => x && y,
-        Kind::Or => x || y,
-        Kind::Xnor => x == y,
-        Kind::Nand => !(x && y),
-        Kind::Nor => !(x || y),
-    }
-}
-
+// A byte with one of its bits put.
 fn put_byte(byte: u8, at: u16, bit: bool) -> u8
     requires { at < 8 }
-    ensures { result ≡ put_byte byte at bit }
+    ensures { result ≡ put_bit byte at bit }
 {
-    if bit {
-        byte | (1u8 << at)
-    } else {
-        byte & !(1u8 << at)
-    }
-}
-
-fn test_byte(byte: u8, at: u16) -> bool
-    requires { at < 8 }
-    ensures { result ≡ test_bit byte at }
-{
-    (byte >> at) & 1 == 1
+    put_bit(byte as u64, at, bit) as u8
 }
 
 // One gate in the row that begins at `base`.
-fn gate_row(bytes: &mut [u8], base: usize, kind: Kind, target: u16, a: u16, b: u16)
-    requires { (base + target / 8 < length bytes.old) × ((base + a / 8 < length bytes.old) × (base + b / 8 < length bytes.old)) }
-    ensures { bytes.new ≡ row_step kind target a b base bytes.old }
+fn gate_row(bytes: &mut [u8], base: usize, gate: Gate)
+    requires { (base + gate.target / 8 < length bytes.old) × ((base + gate.first / 8 < length bytes.old) × (base + gate.second / 8 < length bytes.old)) }
+    ensures { bytes.new ≡ row_step gate.kind gate.target gate.first gate.second base bytes.old }
 {
-    let x = test_byte(bytes[base + (a / 8) as usize], a % 8);
-    let y = test_byte(bytes[base + (b / 8) as usize], b % 8);
-    let at = base + (target / 8) as usize;
-    bytes[at] = put_byte(bytes[at], target % 8, outcome(kind, x, y));
+    let x = test_bit(
+        bytes[base + (gate.first / 8) as usize] as u64,
+        gate.first % 8,
+    );
+    let y = test_bit(
+        bytes[base + (gate.second / 8) as usize] as u64,
+        gate.second % 8,
+    );
+    let at = base + (gate.target / 8) as usize;
+    bytes[at] = put_byte(bytes[at], gate.target % 8, gate.kind.on_bits(x, y));
 }
 
 // One gate in each of the first rows.
-fn gate_rows(bytes: &mut [u8], row: usize, rows: usize, kind: Kind, target: u16, a: u16, b: u16)
-    requires { (rows * row ≤ length bytes.old) × ((target / 8 < row) × ((a / 8 < row) × (b / 8 < row))) }
-    ensures { bytes.new ≡ rows_done kind target a b row rows bytes.old }
+fn gate_rows(bytes: &mut [u8], row: usize, rows: usize, gate: Gate)
+    requires { (rows * row ≤ length bytes.old) × ((gate.target / 8 < row) × ((gate.first / 8 < row) × (gate.second / 8 < row))) }
+    ensures { bytes.new ≡ rows_done gate.kind gate.target gate.first gate.second row rows bytes.old }
 {
+    // by number: over `chunks_exact_mut` the loop's proof stayed open, as what the rows hold then is known chunk by chunk
     for lane in 0..rows {
-        gate_row(bytes, lane * row, kind, target, a, b);
+        gate_row(bytes, lane * row, gate);
     }
 }
 
@@ -171,47 +156,24 @@ impl<'a> Bench for RowBench<'a> {
     }
 
     fn show(&self, register: u16, lane: u16) -> Result<bool, Fault> {
-        if register >= self.registers() {
-            return Err(Fault::register(register));
-        }
-        if lane >= self.lanes() {
-            return Err(Fault::lane(lane));
-        }
+        ask_spot(self.registers(), self.lanes(), register, lane)?;
         let at = place(self.row(), register, lane);
-        Ok(test_byte(self.bytes[at], register % 8))
+        Ok(test_bit(self.bytes[at] as u64, register % 8))
     }
 
     fn set(&mut self, register: u16, lane: u16, value: bool) -> Result<(), Fault> {
-        if register >= self.registers() {
-            return Err(Fault::register(register));
-        }
-        if lane >= self.lanes() {
-            return Err(Fault::lane(lane));
-        }
+        ask_spot(self.registers(), self.lanes(), register, lane)?;
         let at = place(self.row(), register, lane);
         self.bytes[at] = put_byte(self.bytes[at], register % 8, value);
         Ok(())
     }
 
-    fn gate(&mut self, kind: Kind, target: u16, a: u16, b: u16) -> Result<(), Fault> {
-        let count = self.registers();
-        if target >= count {
-            return Err(Fault::register(target));
-        }
-        if a >= count {
-            return Err(Fault::register(a));
-        }
-        if b >= count {
-            return Err(Fault::register(b));
-        }
-        let left = self.left();
-        if left == 0 {
-            return Err(Fault::gates(Part::Bench, 1));
-        }
+    fn gate(&mut self, gate: Gate) -> Result<(), Fault> {
+        ask_gate(self.registers(), self.left(), gate)?;
         let row = self.row();
         let rows = self.rows();
-        gate_rows(self.bytes, row, rows, kind, target, a, b);
-        self.left = left - 1;
+        gate_rows(self.bytes, row, rows, gate);
+        self.left = self.left() - 1;
         Ok(())
     }
 }

@@ -1,12 +1,14 @@
 // Two benches side by side, held by value: the first one's lanes come first, and each gate is done on both.
 ghost use Rattle.std.specs.Prelude.{◌≡◌, min};
 ghost use Rattle.std.proofs.Common.{ap₂};
-ghost use Rattle.bench.specs.Model.{told, both};
+ghost use Rattle.bench.specs.Benches.{meaning};
+ghost use Rattle.bench.specs.Model.{both};
 ghost use Rattle.bench.specs.Side.{side_lanes, side_bit, side_lawful};
 
+use crate::asks::{ask_gate, ask_spot};
 use crate::benches::Bench;
-use crate::faults::{Fault, Part};
-use crate::kinds::Kind;
+use crate::faults::Fault;
+use crate::gates::Gate;
 
 #[derive(Drop)]
 pub struct SideBySide<F, S> {
@@ -21,13 +23,13 @@ impl<F: Bench, S: Bench> Bench for SideBySide<F, S> {
 
     ghost left = { λ s. min (F.Bench.left s.first) (S.Bench.left s.second) };
 
-    ghost shows = { λ s. record { bit = side_bit (told F.Bench.registers F.Bench.lanes F.Bench.left F.Bench.shows s.first) (told S.Bench.registers S.Bench.lanes S.Bench.left S.Bench.shows s.second) } };
+    ghost shows = { λ s. record { bit = side_bit (meaning F.Bench s.first) (meaning S.Bench s.second) } };
 
     ghost beneath = { λ s. both (F.Bench.beneath s.first) (S.Bench.beneath s.second) };
 
     ghost tied = { λ s. ap₂ side_lanes (F.Bench.tied s.first) (S.Bench.tied s.second) };
 
-    ghost lawful = { λ s. side_lawful (told F.Bench.registers F.Bench.lanes F.Bench.left F.Bench.shows s.first) (told S.Bench.registers S.Bench.lanes S.Bench.left S.Bench.shows s.second) (F.Bench.lawful s.first) (S.Bench.lawful s.second) };
+    ghost lawful = { λ s. side_lawful (meaning F.Bench s.first) (meaning S.Bench s.second) (F.Bench.lawful s.first) (S.Bench.lawful s.second) };
 
     fn registers(&self) -> u16 {
         self.first.registers().min(self.second.registers())
@@ -42,12 +44,7 @@ impl<F: Bench, S: Bench> Bench for SideBySide<F, S> {
     }
 
     fn show(&self, register: u16, lane: u16) -> Result<bool, Fault> {
-        if register >= self.registers() {
-            return Err(Fault::register(register));
-        }
-        if lane >= self.lanes() {
-            return Err(Fault::lane(lane));
-        }
+        ask_spot(self.registers(), self.lanes(), register, lane)?;
         let inner = self.first.lanes();
         if lane < inner {
             self.first.show(register, lane)
@@ -57,12 +54,7 @@ impl<F: Bench, S: Bench> Bench for SideBySide<F, S> {
     }
 
     fn set(&mut self, register: u16, lane: u16, value: bool) -> Result<(), Fault> {
-        if register >= self.registers() {
-            return Err(Fault::register(register));
-        }
-        if lane >= self.lanes() {
-            return Err(Fault::lane(lane));
-        }
+        ask_spot(self.registers(), self.lanes(), register, lane)?;
         let inner = self.first.lanes();
         if lane < inner {
             self.first.set(register, lane, value)
@@ -71,21 +63,9 @@ impl<F: Bench, S: Bench> Bench for SideBySide<F, S> {
         }
     }
 
-    fn gate(&mut self, kind: Kind, target: u16, a: u16, b: u16) -> Result<(), Fault> {
-        let count = self.registers();
-        if target >= count {
-            return Err(Fault::register(target));
-        }
-        if a >= count {
-            return Err(Fault::register(a));
-        }
-        if b >= count {
-            return Err(Fault::register(b));
-        }
-        if self.left() == 0 {
-            return Err(Fault::gates(Part::Bench, 1));
-        }
-        self.first.gate(kind, target, a, b)?;
-        self.second.gate(kind, target, a, b)
+    fn gate(&mut self, gate: Gate) -> Result<(), Fault> {
+        ask_gate(self.registers(), self.left(), gate)?;
+        self.first.gate(gate)?;
+        self.second.gate(gate)
     }
 }

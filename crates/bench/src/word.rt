@@ -4,9 +4,11 @@ ghost use Rattle.std.specs.Prelude.{◌≡◌, ◌<◌, min, [], refl};
 ghost use Rattle.bench.specs.Model.{part};
 ghost use Rattle.bench.specs.Word.{word_model, word_count, word_bit, beyond, word_lawful, combined, put_bit, test_bit};
 
+use crate::asks::{ask_gate, ask_spot};
 use crate::benches::Bench;
-use crate::faults::{Fault, Part, Question};
-use crate::kinds::Kind;
+use crate::bits::{put_bit, test_bit};
+use crate::faults::Fault;
+use crate::gates::Gate;
 
 pub const MOST_REGISTERS: usize = 65_535;
 
@@ -51,37 +53,6 @@ impl<'a> WordBench<'a> {
     }
 }
 
-fn combine(kind: Kind, x: u64, y: u64) -> u64
-    ensures { result ≡ combined kind x y }
-{
-    match kind {
-        Kind::Xor => x ^ y,
-        Kind::And => x & y,
-        Kind::Or => x | y,
-        Kind::Xnor => !(x ^ y),
-        Kind::Nand => !(x & y),
-        Kind::Nor => !(x | y),
-    }
-}
-
-fn put_bit(word: u64, lane: u16, bit: bool) -> u64
-    requires { lane < 64 }
-    ensures { result ≡ put_bit word lane bit }
-{
-    if bit {
-        word | (1u64 << lane)
-    } else {
-        word & !(1u64 << lane)
-    }
-}
-
-fn test_bit(word: u64, lane: u16) -> bool
-    requires { lane < 64 }
-    ensures { result ≡ test_bit word lane }
-{
-    (word >> lane) & 1 == 1
-}
-
 impl<'a> Bench for WordBench<'a> {
     ghost registers = { λ s. word_count s.words.now };
 
@@ -110,46 +81,23 @@ impl<'a> Bench for WordBench<'a> {
     }
 
     fn show(&self, register: u16, lane: u16) -> Result<bool, Fault> {
-        if register >= self.registers() {
-            return Err(Fault::register(register));
-        }
-        if lane >= 64 {
-            return Err(Fault::lane(lane));
-        }
+        ask_spot(self.registers(), self.lanes(), register, lane)?;
         Ok(test_bit(self.words[register as usize], lane))
     }
 
     fn set(&mut self, register: u16, lane: u16, value: bool) -> Result<(), Fault> {
-        if register >= self.registers() {
-            return Err(Fault::register(register));
-        }
-        if lane >= 64 {
-            return Err(Fault::lane(lane));
-        }
+        ask_spot(self.registers(), self.lanes(), register, lane)?;
         let word = self.words[register as usize];
         self.words[register as usize] = put_bit(word, lane, value);
         Ok(())
     }
 
-    fn gate(&mut self, kind: Kind, target: u16, a: u16, b: u16) -> Result<(), Fault> {
-        let count = self.registers();
-        if target >= count {
-            return Err(Fault::register(target));
-        }
-        if a >= count {
-            return Err(Fault::register(a));
-        }
-        if b >= count {
-            return Err(Fault::register(b));
-        }
-        let left = self.left();
-        if left == 0 {
-            return Err(Fault::gates(Part::Bench, 1));
-        }
-        let x = self.words[a as usize];
-        let y = self.words[b as usize];
-        self.words[target as usize] = combine(kind, x, y);
-        self.left = left - 1;
+    fn gate(&mut self, gate: Gate) -> Result<(), Fault> {
+        ask_gate(self.registers(), self.left(), gate)?;
+        let x = self.words[gate.first as usize];
+        let y = self.words[gate.second as usize];
+        self.words[gate.target as usize] = gate.kind.on_words(x, y);
+        self.left = self.left() - 1;
         Ok(())
     }
 }

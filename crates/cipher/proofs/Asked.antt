@@ -1,10 +1,6 @@
 -- What the questions give. Assumes nothing.
-use Rattle.std.proofs.Common.{◌≡◌, ℕ, ◌-◌, ◌<◌, ◌≤◌, Bool, true, false, ◌&&◌, leb, List, Ok, Err, sym, refl, ap, ◌∙◌, ap₂, arith}
-use Rattle.std.proofs.lemmas.Bool.{and_parts, leb-true, lt-ltb, le-ltb}
-use Rattle.bench.specs.declared.faults.Fault.{Fault}
-use Rattle.bench.specs.declared.faults.Question.TheVariants.{Size, Gates}
-use Rattle.bench.specs.declared.faults.Part.TheVariants.{Unit as UnitPart}
-use Rattle.bench.specs.Faults.{fault}
+use Rattle.std.proofs.Common.{◌≡◌, ℕ, ◌≤◌, Bool, true, ◌&&◌, leb, List, Ok, sym, refl, ◌∙◌, ap₂, arith}
+use Rattle.std.proofs.lemmas.Bool.{and_parts, leb-true, le-ltb}
 use Rattle.bench.specs.Model.{Model}
 use Rattle.plans.specs.declared.plays.Play.{Play}
 use Rattle.standard.specs.Kinds.{KeyKind}
@@ -13,12 +9,6 @@ use Rattle.plans.specs.Plays.{plan_gates}
 use Rattle.cipher.specs.Claims.{sized, plan_answer}
 
 module _ (inv : List ℕ) (κ : KeyKind) (ps : List Play) (m : Model) where
-  refuse_size : sized κ m.registers m.lanes ≡ false → plan_answer inv κ ps m ≡ Err (fault Size UnitPart 0)
-  refuse_size e = rw e refl
-
-  refuse_gates : sized κ m.registers m.lanes ≡ true → m.left < plan_gates inv ps → plan_answer inv κ ps m ≡ Err (fault Gates UnitPart (plan_gates inv ps - m.left))
-  refuse_gates e h = let t = lt-ltb m.left (plan_gates inv ps) h in rw (e, t) refl
-
   accept : sized κ m.registers m.lanes ≡ true → plan_gates inv ps ≤ m.left → plan_answer inv κ ps m ≡ Ok tt
   accept e h = let t = le-ltb m.left (plan_gates inv ps) h in rw (e, t) refl
 
@@ -27,15 +17,9 @@ module _ (inv : List ℕ) (κ : KeyKind) (ps : List Play) (m : Model) where
     same_size : sized κ m.registers m.lanes ≡ fits
     same_size = sym (f ∙ ap₂ (sized κ) r l)
 
-    pub told_size : fits ≡ false → Err (fault Size UnitPart 0) ≡ plan_answer inv κ ps m
-    told_size e = sym (refuse_size (same_size ∙ e))
-
     pub told_room : fits ≡ true → (room κ) ≤ m.registers
     told_room e = leb-true (room κ) m.registers (and_parts (leb (room κ) m.registers) (leb 1 m.lanes && leb m.lanes 128) (same_size ∙ e)).0
 
     module _ (left needed : ℕ) (k : left ≡ m.left) (n : needed ≡ plan_gates inv ps) where
-      pub told_gates : (x : Fault) → fits ≡ true → left < needed → x ≡ fault Gates UnitPart (needed - left) → Err x ≡ plan_answer inv κ ps m
-      told_gates x e h q = sym (refuse_gates (same_size ∙ e) (omega arith) ∙ ap Err (ap₂ (λ a b. fault Gates UnitPart (a - b)) (sym n) (sym k) ∙ sym q))
-
       pub told_accept : fits ≡ true → needed ≤ left → Ok tt ≡ plan_answer inv κ ps m
       told_accept e h = sym (accept (same_size ∙ e) (omega arith))

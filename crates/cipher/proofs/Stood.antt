@@ -5,14 +5,16 @@ use Rattle.bench.specs.declared.faults.Fault.{Fault}
 use Rattle.bench.specs.Model.{Model, after}
 use Rattle.plans.specs.declared.plays.Play.{Play}
 use Rattle.plans.specs.Plays.{planned}
-use Rattle.plans.specs.Plans.{schedule_plan, stages_to, seal_plan, open_plan}
+use Rattle.plans.specs.declared.tables.Plan.{Plan}
+use Rattle.plans.specs.declared.tables.Plan.TheVariants.{Schedule, Seal, Open}
+use Rattle.plans.specs.Plans.{schedule_plan, stages_to, seal_plan, open_plan, plays_of}
 use Rattle.circuit.specs.Lanes.{Lane, lane_of, run_plan}
 use Rattle.circuit.specs.Claims.{Inverts, state_of, keys_of}
 use Rattle.circuit.proofs.Lanes.{planned_lane}
 use Rattle.circuit.proofs.SealStands.{seal_stands_lem}
 use Rattle.circuit.proofs.KeyStands.{schedule_stands_lem}
 use Rattle.circuit.proofs.OpenStands.{open_stands_lem}
-use Rattle.cipher.specs.Claims.{Given, Schedules, StagesStand, Seals, Opens}
+use Rattle.cipher.specs.Claims.{Given, Schedules, StagesStand, Seals, Opens, Does}
 
 module _ (inv : List ℕ) (E : Inverts inv) (κ : KeyKind) where
   lane_after : (plan : List Play) (m m' : Model) → m' ≡ planned inv plan m → (l : ℕ) → l < m.lanes → lane_of m' l ≡ run_plan inv plan (lane_of m l)
@@ -41,6 +43,11 @@ module _ (inv : List ℕ) (E : Inverts inv) (κ : KeyKind) where
       let same = lane_after (open_plan κ) m m' e l h in
       let stood = open_stands_lem inv E κ (lane_of m l) in
       (ap state_of same ∙ stood.0, λ r lo hi. (λ k. same k r) ∙ stood.1 r lo hi)
+
+  pub does : (p : Plan) (m m' : Model) → m' ≡ planned inv (plays_of p κ) m → Does κ p m m'
+  does Schedule = schedules
+  does Seal = seals
+  does Open = opens
 
 -- an accepted call leaves what its plan does
 pub given_from : (P : Model → Model → Type 0) (r : Result (Unit {0}) Fault) (m m' done : Model) → m' ≡ after r done m → (m' ≡ done → P m m') → Given P r m m'

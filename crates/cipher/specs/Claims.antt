@@ -3,16 +3,18 @@
 --   sized κ R L      a bench of R registers and L lanes has the size for keys of kind κ
 --   plan_answer      the answer of a call that plays a plan: is the size right, and are enough gates left
 --   Given P r m m'   P m m', where the call was accepted; a refused one alters nothing
-use Rattle.std.specs.Prelude.{◌≡◌, ℕ, ◌+◌, ◌-◌, ◌*◌, ◌<◌, ◌≤◌, Bool, cond, ◌&&◌, List, map, Ok, Err, Result, nat_le, nat_lt}
+use Rattle.std.specs.Prelude.{◌≡◌, ℕ, ◌+◌, ◌*◌, ◌<◌, ◌≤◌, Bool, cond, ◌&&◌, List, map, Ok, Err, Result, nat_le}
 use Rattle.standard.specs.Cipher.{state_after, Cipher, InvCipher}
 use Rattle.standard.specs.Kinds.{KeyKind, rounds, round_key}
 use Rattle.coordinates.specs.Coordinates.{to_coordinates}
-use Rattle.bench.specs.declared.faults.Question.TheVariants.{Size, Gates}
+use Rattle.bench.specs.declared.faults.Question.TheVariants.{Size}
 use Rattle.bench.specs.declared.faults.Part.TheVariants.{Unit as UnitPart}
 use Rattle.bench.specs.declared.faults.Fault.{Fault}
 use Rattle.bench.specs.Faults.{fault}
-use Rattle.bench.specs.Model.{Model}
+use Rattle.bench.specs.Model.{Model, gates_answer}
 use Rattle.plans.specs.declared.plays.Play.{Play}
+use Rattle.plans.specs.declared.tables.Plan.{Plan}
+use Rattle.plans.specs.declared.tables.Plan.TheVariants.{Schedule, Seal, Open}
 use Rattle.plans.specs.Layout.{at, free, room}
 use Rattle.plans.specs.Plays.{planned, plan_gates}
 use Rattle.plans.specs.Plans.{stages_to}
@@ -26,7 +28,7 @@ sized κ registers lanes = nat_le (room κ) registers && (nat_le 1 lanes && nat_
 abbrev pub plan_answer : List ℕ → KeyKind → List Play → Model → Result (Unit {0}) Fault
 plan_answer inv κ plan m =
     cond (sized κ m.registers m.lanes)
-    (cond (nat_lt m.left (plan_gates inv plan)) (Err (fault Gates UnitPart (plan_gates inv plan - m.left))) (Ok tt))
+    (gates_answer UnitPart (plan_gates inv plan) m.left)
     (Err (fault Size UnitPart 0))
 
 abbrev pub Given : (Model → Model → Type 0) → Result (Unit {0}) Fault → Model → Model → Type 0
@@ -60,3 +62,9 @@ abbrev pub Opens : KeyKind → Model → Model → Type 0
 Opens κ m m' = (l : ℕ) → l < m.lanes
     → (state_of (lane_of m' l) ≡ InvCipher (rounds κ) (state_of (lane_of m l)) (keys_of κ (lane_of m l)))
     × ((r : ℕ) → at 16 ≤ r → r < at (free κ) → m'.bit r l ≡ m.bit r l)
+
+-- what the three plans do
+abbrev pub Does : KeyKind → Plan → Model → Model → Type 0
+Does κ Schedule = Schedules κ
+Does κ Seal = Seals κ
+Does κ Open = Opens κ

@@ -7,29 +7,21 @@ ghost use Rattle.plans.specs.Pages.{own_inverter};
 ghost use Rattle.circuit.specs.Claims.{Inverts, SealStands, ScheduleStands, OpenStands};
 
 // The repository's own inverter page inverts.
-pub fn inverter_stands() -> u8
+pub fn inverter_stands()
     ensures { Inverts own_inverter }
-{
-    0
-}
+{}
 
 // Stage by stage the sealing's plan does the cipher of FIPS 197.
-pub fn seal_stands() -> u8
+pub fn seal_stands()
     ensures { (inv : List ℕ) → Inverts inv → (κ : KeyKind) → SealStands inv κ }
-{
-    0
-}
+{}
 
 // The scheduling's plan gives the round keys of FIPS 197.
-pub fn schedule_stands() -> u8
+pub fn schedule_stands()
     ensures { (inv : List ℕ) → Inverts inv → (κ : KeyKind) → ScheduleStands inv κ }
-{
-    0
-}
+{}
 
 // The opening's plan does the inverse cipher of FIPS 197.
-pub fn open_stands() -> u8
+pub fn open_stands()
     ensures { (inv : List ℕ) → Inverts inv → (κ : KeyKind) → OpenStands inv κ }
-{
-    0
-}
+{}

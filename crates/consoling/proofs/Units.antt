@@ -5,8 +5,8 @@ use Rattle.bench.specs.declared.faults.Fault.{Fault}
 use Rattle.lanetable.specs.declared.records.LaneRecord.{LaneRecord}
 use Rattle.unit.specs.Answers.{settled}
 use Rattle.unit.specs.View.{View, shape, made}
-use Rattle.law.specs.Calls.{Asked, place_key, place_block, clear, schedule, seal, unseal, read, counts, left, record_of, unready, Line, refusal, done, next, performed, log}
-use Rattle.consoling.specs.Runs.{unit_over}
+use Rattle.law.specs.Calls.{Asked, place_key, place_block, clear, schedule, seal, unseal, read, counts, left, record_of, unready, Line, refusal, done, next, performed, log, ran}
+use Rattle.consoling.specs.Runs.{unit_over, left_after}
 
 -- two units that differ at most in where the memory lies
 pub record Same (v w : View) : Type 0 where
@@ -58,3 +58,10 @@ log_same v w s (a ∷ cs) = ap₂ (λ (x : Line) (xs : List Line). x ∷ xs) (pe
 
 pub log_over : (m : Model) (x : Memory) (cs : List Asked) → log (made m x) cs ≡ log (unit_over m) cs
 log_over m x cs = log_same (made m x) (unit_over m) (record { model = refl; records = refl }) cs
+
+ran_same : (v w : View) → Same v w → (cs : List Asked) → Same (ran v cs) (ran w cs)
+ran_same v w s [] = s
+ran_same v w s (a ∷ cs) = ran_same (next v a) (next w a) (next_same v w s a) cs
+
+pub left_over : (m : Model) (x : Memory) (cs : List Asked) → (ran (made m x) cs).model.left ≡ left_after m cs
+left_over m x cs = ap (λ (n : Model). n.left) (ran_same (made m x) (unit_over m) (record { model = refl; records = refl }) cs).model

@@ -3,7 +3,8 @@
 --   answer_text x   what is written for the call and answer x, with the byte 10 that ends its line
 use Rattle.std.specs.Prelude.{ℕ, Bool, true, false, List, [], ◌∷◌, ◌++◌, Some, None, Ok, Err, codes, Option}
 use Rattle.text.specs.Text.{decimal, hex_text}
-use Rattle.playing.specs.declared.answers.Answer.TheVariants as plain
+use Rattle.playing.specs.declared.answers.Reply.TheVariants as reply
+use Rattle.playing.specs.declared.answers.Refusal.TheVariants as refusal
 use Rattle.playing.specs.Answers.{answer_line}
 use Rattle.lanetable.specs.declared.records.KeyState.{KeyState}
 use Rattle.lanetable.specs.declared.records.KeyState.TheVariants.{Absent, Placed, Scheduled}
@@ -38,29 +39,29 @@ reading_text bs = codes "ok " ++ (hex_text bs ++ (10 ∷ []))
 
 -- an accepted reading has what its buffer holds
 abbrev pub done_text : Asked → List ℕ
-done_text (place_key l bs) = answer_line plain.Done
-done_text (place_block l bs) = answer_line plain.Done
-done_text (clear l) = answer_line plain.Done
-done_text schedule = answer_line plain.Done
-done_text seal = answer_line plain.Done
-done_text unseal = answer_line plain.Done
+done_text (place_key l bs) = answer_line (Ok reply.Done)
+done_text (place_block l bs) = answer_line (Ok reply.Done)
+done_text (clear l) = answer_line (Ok reply.Done)
+done_text schedule = answer_line (Ok reply.Done)
+done_text seal = answer_line (Ok reply.Done)
+done_text unseal = answer_line (Ok reply.Done)
 done_text (read l bs) = reading_text bs
-done_text counts = answer_line plain.Done
-done_text left = answer_line plain.Done
-done_text (record_of l) = answer_line plain.Done
-done_text unready = answer_line plain.Done
+done_text counts = answer_line (Ok reply.Done)
+done_text left = answer_line (Ok reply.Done)
+done_text (record_of l) = answer_line (Ok reply.Done)
+done_text unready = answer_line (Ok reply.Done)
 
 abbrev pub reply_text : Reply → Asked → List ℕ
 reply_text Done a = done_text a
 reply_text (Counts c) a = counts_text c
-reply_text (Left n) a = answer_line (plain.Left n)
+reply_text (Left n) a = answer_line (Ok (reply.Left n))
 reply_text (Record r) a = record_text r
 reply_text (Unready o) a = unready_text o
 
 abbrev pub told_text : Answer → Asked → List ℕ
 told_text None a = codes "pending" ++ (10 ∷ [])
 told_text (Some (Ok r)) a = reply_text r a
-told_text (Some (Err f)) a = answer_line (plain.Refused f)
+told_text (Some (Err f)) a = answer_line (Err (refusal.Fault f))
 
 abbrev pub answer_text : Line → List ℕ
 answer_text x = told_text x.answer x.call

@@ -1,24 +1,23 @@
 // A whole script, on one unit or on two.
-ghost use Rattle.std.specs.Prelude.{◌≡◌, ◌+◌, ◌^◌, ◌<◌, true, [], ◌∷◌, ◌++◌, length, IfOk, codes, OnOk};
-ghost use Rattle.text.specs.Text.{lines_in};
-ghost use Rattle.playing.specs.Setups.{beside, opens};
+ghost use Rattle.std.specs.Prelude.{◌≡◌, [], ◌∷◌, ◌++◌, IfOk, codes, OnOk};
+ghost use Rattle.playing.specs.Setups.{opens};
 ghost use Rattle.unit.specs.Held.{meaning};
 ghost use Rattle.law.specs.Calls.{asks, lines, log as logged};
 ghost use Rattle.consoling.specs.Runs.{unit_on, answers_text, beside_text, both_text, console_text, Ran, RanBoth, RanOn, LawOne, LawTwo, LawParted, LawBoth, ConsoleLaw};
 
-use crate::scripts::{find_bench, read_body};
-use crate::turns::{Found, Script};
+use crate::scripts::read_body;
+use crate::turns::{Body, Script};
 use crate::writers::push_answers;
 use bench::benches::Bench;
-use bench::row::RowBench;
-use bench::side::SideBySide;
-use bench::word::WordBench;
+use bench::either::EitherBench;
 use law::calls::Entry;
 use law::run::{run, run_both};
-use playing::answers::Answer;
-use playing::setups::{Setup, Single};
+use playing::benchlines::find_bench;
+use playing::memory::SetupMemory;
+use playing::setups::Setup;
 use playing::writers::push_answer;
 use std::alloc::{AllocError, Global};
+use text::lines::Lines;
 use text::writes::push_text;
 
 // Performs the calls on a unit over the bench.
@@ -40,155 +39,8 @@ fn run_scripts<P: Bench + Drop, Q: Bench + Drop>(
     let _units = run_both(one, two, first, second);
 }
 
-// The second unit's bench, of one part or two side by side.
-fn run_second<P: Bench + Drop, F: Bench + Drop>(
-    heap: Global,
-    one: P,
-    left: F,
-    right: Option<Single>,
-    first: &mut [Entry],
-    second: &mut [Entry],
-) -> Result<(), AllocError>
-    ensures { OnOk result (RanBoth (meaning P.Bench one) (beside (meaning F.Bench left) right) (asks first.old) (asks second.old) (lines first.new) (lines second.new)) }
-{
-    match right {
-        None => {
-            run_scripts(one, left, first, second);
-            Ok(())
-        }
-        Some(
-            Single::Word {
-                registers,
-                allotment,
-            },
-        ) => {
-            let mut words = vec![in heap; 0u64; registers]?;
-            let right = WordBench::new(words.as_mut_slice(), allotment);
-            run_scripts(
-                one,
-                SideBySide {
-                    first: left,
-                    second: right,
-                },
-                first,
-                second,
-            );
-            Ok(())
-        }
-        Some(
-            Single::Row {
-                width,
-                bytes,
-                allotment,
-            },
-        ) => {
-            let mut rows = vec![in heap; 0u8; bytes]?;
-            let right = RowBench::new(rows.as_mut_slice(), width, allotment);
-            run_scripts(
-                one,
-                SideBySide {
-                    first: left,
-                    second: right,
-                },
-                first,
-                second,
-            );
-            Ok(())
-        }
-    }
-}
-
-// Performs the calls on a unit over the bench, and the second ones, if any, on a unit of their own.
-fn run_on<B: Bench + Drop>(
-    heap: Global,
-    bench: B,
-    other: Option<Setup>,
-    first: &mut [Entry],
-    second: &mut [Entry],
-) -> Result<(), AllocError>
-    ensures { OnOk result (RanOn (meaning B.Bench bench) other (asks first.old) (asks second.old) (lines first.new) (lines second.new)) }
-{
-    let Some(other) = other else {
-        run_script(bench, first);
-        return Ok(());
-    };
-    match other.first {
-        Single::Word {
-            registers,
-            allotment,
-        } => {
-            let mut words = vec![in heap; 0u64; registers]?;
-            let left = WordBench::new(words.as_mut_slice(), allotment);
-            run_second(heap, bench, left, other.second, first, second)
-        }
-        Single::Row {
-            width,
-            bytes,
-            allotment,
-        } => {
-            let mut rows = vec![in heap; 0u8; bytes]?;
-            let left = RowBench::new(rows.as_mut_slice(), width, allotment);
-            run_second(heap, bench, left, other.second, first, second)
-        }
-    }
-}
-
-// The first unit's bench, of one part or two side by side.
-fn run_first<F: Bench + Drop>(
-    heap: Global,
-    left: F,
-    right: Option<Single>,
-    other: Option<Setup>,
-    first: &mut [Entry],
-    second: &mut [Entry],
-) -> Result<(), AllocError>
-    ensures { OnOk result (RanOn (beside (meaning F.Bench left) right) other (asks first.old) (asks second.old) (lines first.new) (lines second.new)) }
-{
-    match right {
-        None => run_on(heap, left, other, first, second),
-        Some(
-            Single::Word {
-                registers,
-                allotment,
-            },
-        ) => {
-            let mut words = vec![in heap; 0u64; registers]?;
-            let right = WordBench::new(words.as_mut_slice(), allotment);
-            run_on(
-                heap,
-                SideBySide {
-                    first: left,
-                    second: right,
-                },
-                other,
-                first,
-                second,
-            )
-        }
-        Some(
-            Single::Row {
-                width,
-                bytes,
-                allotment,
-            },
-        ) => {
-            let mut rows = vec![in heap; 0u8; bytes]?;
-            let right = RowBench::new(rows.as_mut_slice(), width, allotment);
-            run_on(
-                heap,
-                SideBySide {
-                    first: left,
-                    second: right,
-                },
-                other,
-                first,
-                second,
-            )
-        }
-    }
-}
-
-// Performs the calls on units over the benches of the setups, over memory of zeros.
+// Performs the calls on a unit over the bench of the setup, and the second ones, if any, on a unit of their own; the
+// benches stand over memory of zeros.
 fn run_setups(
     heap: Global,
     setup: Setup,
@@ -198,25 +50,19 @@ fn run_setups(
 ) -> Result<(), AllocError>
     ensures { OnOk result (RanOn (opens setup) other (asks first.old) (asks second.old) (lines first.new) (lines second.new)) }
 {
-    match setup.first {
-        Single::Word {
-            registers,
-            allotment,
-        } => {
-            let mut words = vec![in heap; 0u64; registers]?;
-            let left = WordBench::new(words.as_mut_slice(), allotment);
-            run_first(heap, left, setup.second, other, first, second)
-        }
-        Single::Row {
-            width,
-            bytes,
-            allotment,
-        } => {
-            let mut rows = vec![in heap; 0u8; bytes]?;
-            let left = RowBench::new(rows.as_mut_slice(), width, allotment);
-            run_first(heap, left, setup.second, other, first, second)
+    let mut memory = SetupMemory::zeros(heap, setup)?;
+    match other {
+        // A bench of words is played as such: asking at each gate which bench there is takes an eighth more time.
+        None => match memory.bench() {
+            EitherBench::Left(words) => run_script(words, first),
+            EitherBench::Right(other) => run_script(other, first),
+        },
+        Some(other) => {
+            let mut beside = SetupMemory::zeros(heap, other)?;
+            run_scripts(memory.bench(), beside.bench(), first, second);
         }
     }
+    Ok(())
 }
 
 // Performs a script that has no second one, and appends its answers.
@@ -260,33 +106,30 @@ fn answer_both(
     push_answers(out, two.turns.as_slice(), two.log.as_slice())
 }
 
-// A script, and the text after the line `beside`, before which `passed` lines stood.
+// A script, and the lines after a line `beside`.
 fn answer_beside(
     heap: Global,
     setup: Setup,
     script: Script,
-    rest: &[u8],
-    passed: u64,
+    rest: Lines<'_>,
     out: &mut Vec<u8>,
 ) -> Result<(), AllocError>
-    requires { passed + length rest.now < 2 ^ 64 }
-    ensures text { OnOk result (out.new.items ≡ out.old.items ++ (answers_text script.turns.items (logged (unit_on setup) (asks script.log.items)) ++ beside_text (passed + 1) (lines_in rest.now))) }
-    ensures law { OnOk result (LawParted true setup (asks script.log.items) (passed + 1) (lines_in rest.now)) }
+    ensures text { OnOk result (out.new.items ≡ out.old.items ++ (answers_text script.turns.items (logged (unit_on setup) (asks script.log.items)) ++ beside_text (Some rest.entry))) }
+    ensures law { OnOk result (LawParted setup (asks script.log.items) (Some rest.entry)) }
 {
-    let opening = find_bench(rest, passed);
-    match opening.found {
-        Found::Nothing => {
+    match find_bench(rest) {
+        Ok(None) => {
             answer_alone(heap, setup, script, out)?;
             push_text(out, b"beside\n")
         }
-        Found::Unreadable(number) => {
+        Ok(Some((other, rest))) => {
+            let body = read_body(heap, rest, false)?;
+            answer_both(heap, setup, other, script, body.script, out)
+        }
+        Err(refusal) => {
             answer_alone(heap, setup, script, out)?;
             push_text(out, b"beside\n")?;
-            push_answer(out, Answer::Unreadable(number))
-        }
-        Found::Bench(other) => {
-            let body = read_body(heap, opening.rest, opening.passed, false)?;
-            answer_both(heap, setup, other, script, body.script, out)
+            push_answer(out, Err(refusal))
         }
     }
 }
@@ -295,19 +138,16 @@ fn answer_beside(
 fn answer_script(
     heap: Global,
     setup: Setup,
-    text: &[u8],
-    passed: u64,
+    rest: Lines<'_>,
     out: &mut Vec<u8>,
 ) -> Result<(), AllocError>
-    requires { passed + length text.now < 2 ^ 64 }
-    ensures text { OnOk result (out.new.items ≡ out.old.items ++ both_text setup (passed + 1) (lines_in text.now)) }
-    ensures law { OnOk result (LawBoth setup (passed + 1) (lines_in text.now)) }
+    ensures text { OnOk result (out.new.items ≡ out.old.items ++ both_text setup rest.entry.next rest.entry.lines) }
+    ensures law { OnOk result (LawBoth setup rest.entry.next rest.entry.lines) }
 {
-    let body = read_body(heap, text, passed, true)?;
-    if body.parted {
-        answer_beside(heap, setup, body.script, body.rest, body.passed, out)
-    } else {
-        answer_alone(heap, setup, body.script, out)
+    let Body { script, beside } = read_body(heap, rest, true)?;
+    match beside {
+        None => answer_alone(heap, setup, script, out),
+        Some(rest) => answer_beside(heap, setup, script, rest, out),
     }
 }
 
@@ -317,11 +157,10 @@ pub fn console_script(heap: Global, script: &[u8]) -> Result<Vec<u8>, AllocError
     ensures law { OnOk result (ConsoleLaw script.now) }
 {
     let mut out = Vec::new(heap);
-    let opening = find_bench(script, 0);
-    match opening.found {
-        Found::Nothing => {}
-        Found::Unreadable(number) => push_answer(&mut out, Answer::Unreadable(number))?,
-        Found::Bench(setup) => answer_script(heap, setup, opening.rest, opening.passed, &mut out)?,
+    match find_bench(Lines::of(script)) {
+        Ok(None) => {}
+        Ok(Some((setup, rest))) => answer_script(heap, setup, rest, &mut out)?,
+        Err(refusal) => push_answer(&mut out, Err(refusal))?,
     }
     Ok(out)
 }

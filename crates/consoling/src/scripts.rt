@@ -1,16 +1,15 @@
 // Reading the lines of a script.
-ghost use Rattle.std.specs.Prelude.{◌≡◌, ◌+◌, ◌^◌, ◌<◌, ◌≤◌, ◌&&◌, ◌++◌, length, IfOk, OnOk};
-ghost use Rattle.text.specs.Text.{lines_in};
+ghost use Rattle.std.specs.Prelude.{◌≡◌, ◌&&◌, ◌++◌, IfOk, OnOk};
 ghost use Rattle.law.specs.Calls.{asks};
-ghost use Rattle.consoling.specs.Scripts.{besides, turns_of, calls_of, Parted, Opened};
+ghost use Rattle.consoling.specs.Scripts.{besides, turns_of, calls_of, Parted};
 
 use crate::readers::read_call;
-use crate::turns::{Body, Found, Opening, Script, Turn};
+use crate::turns::{Body, Script, Turn};
 use law::calls::Entry;
-use playing::benchlines::read_bench;
 use playing::readers::is_silent;
 use std::alloc::{AllocError, Global};
-use text::reads::{is_word, split_line, split_word};
+use text::lines::{Line, Lines};
+use text::reads::{is_word, split_word};
 
 // Whether a line begins a second script.
 fn is_beside(line: &[u8]) -> bool
@@ -29,88 +28,45 @@ fn ends(stop: bool, line: &[u8]) -> bool
 }
 
 // Appends what a line gives to the script.
-fn read_line(heap: Global, line: &[u8], number: u64, script: &mut Script) -> Result<(), AllocError>
-    ensures turns { OnOk result (script.new.turns.items ≡ script.old.turns.items ++ turns_of number line.now) }
-    ensures calls { OnOk result (asks script.new.log.items ≡ asks script.old.log.items ++ calls_of line.now) }
+fn read_line(heap: Global, line: Line<'_>, script: &mut Script) -> Result<(), AllocError>
+    ensures turns { OnOk result (script.new.turns.items ≡ script.old.turns.items ++ turns_of line.entry.number line.entry.text.now) }
+    ensures calls { OnOk result (asks script.new.log.items ≡ asks script.old.log.items ++ calls_of line.entry.text.now) }
 {
-    if is_silent(line) {
+    if is_silent(line.text) {
         return Ok(());
     }
-    match read_call(heap, line)? {
+    match read_call(heap, line.text)? {
         Some(call) => {
             script.log.push(Entry { call, answer: None })?;
             script.turns.push(Turn::Call)?;
         }
-        None => script.turns.push(Turn::Unreadable(number))?,
+        None => script.turns.push(Turn::Unreadable(line.number))?,
     }
     Ok(())
 }
 
-// Reads the lines of the text, before which `passed` lines stood; with `stop`, up to a line `beside`.
+// Reads the lines; with `stop`, up to a line `beside`.
 pub(crate) fn read_body<'a>(
     heap: Global,
-    text: &'a [u8],
-    passed: u64,
+    mut lines: Lines<'a>,
     stop: bool,
 ) -> Result<Body<'a>, AllocError>
-    requires { passed + length text.now < 2 ^ 64 }
-    ensures read { IfOk result (λ b. Parted stop (passed + 1) (lines_in text.now) b.script.turns.items (asks b.script.log.items) b.parted (lines_in b.rest.now) (b.passed + 1)) }
-    ensures bound { IfOk result (λ b. b.passed + length b.rest.now ≤ passed + length text.now) }
+    ensures { IfOk result (λ b. Parted stop lines.entry.next lines.entry.lines b.script.turns.items (asks b.script.log.items) b.beside) }
 {
     let turns = Vec::new(heap);
     let log = Vec::new(heap);
     let mut script = Script { turns, log };
-    let mut rest = text;
-    let mut number = passed;
-    while !rest.is_empty() {
-        let (line, after) = split_line(rest);
-        rest = after;
-        number += 1;
-        if ends(stop, line) {
+    while let Some(line) = lines.next() {
+        if ends(stop, line.text) {
             return Ok(Body {
                 script,
-                parted: true,
-                rest,
-                passed: number,
+                beside: Some(lines),
             });
         }
-        read_line(heap, line, number, &mut script)?;
+        read_line(heap, line, &mut script)?;
     }
     Ok(Body {
         script,
-        parted: false,
-        rest,
-        passed: number,
+        beside: None,
     })
-}
-
-// Looks for the bench line of the text, before which `passed` lines stood.
-pub(crate) fn find_bench(text: &[u8], passed: u64) -> Opening<'_>
-    requires { passed + length text.now < 2 ^ 64 }
-    ensures read { Opened (passed + 1) (lines_in text.now) result.found (lines_in result.rest.now) (result.passed + 1) }
-    ensures bound { result.passed + length result.rest.now ≤ passed + length text.now }
-{
-    let mut rest = text;
-    let mut number = passed;
-    while !rest.is_empty() {
-        let (line, after) = split_line(rest);
-        rest = after;
-        number += 1;
-        if !is_silent(line) {
-            let found = match read_bench(line) {
-                Some(setup) => Found::Bench(setup),
-                None => Found::Unreadable(number),
-            };
-            return Opening {
-                found,
-                rest,
-                passed: number,
-            };
-        }
-    }
-    Opening {
-        found: Found::Nothing,
-        rest,
-        passed: number,
-    }
 }

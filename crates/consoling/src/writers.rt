@@ -7,7 +7,7 @@ ghost use Rattle.consoling.specs.Runs.{answers_text};
 use crate::turns::Turn;
 use lanetable::records::{KeyState, LaneRecord};
 use law::calls::{Call, Entry, Reply};
-use playing::answers::Answer as Plain;
+use playing::answers::{Refusal, Reply as Plain};
 use playing::writers::push_answer as push_plain;
 use std::alloc::AllocError;
 use text::writes::{push_hex, push_number, push_text};
@@ -77,7 +77,7 @@ fn push_done(out: &mut Vec<u8>, call: &Call) -> Result<(), AllocError>
 {
     match call {
         Call::Read(_, bytes) => push_reading(out, bytes.as_slice()),
-        _ => push_plain(out, Plain::Done),
+        _ => push_plain(out, Ok(Plain::Done)),
     }
 }
 
@@ -87,7 +87,7 @@ fn push_reply(out: &mut Vec<u8>, reply: Reply, call: &Call) -> Result<(), AllocE
     match reply {
         Reply::Done => push_done(out, call),
         Reply::Counts(counts) => push_counts(out, counts),
-        Reply::Left(gates) => push_plain(out, Plain::Left(gates)),
+        Reply::Left(gates) => push_plain(out, Ok(Plain::Left(gates))),
         Reply::Record(record) => push_record(out, record),
         Reply::Unready(lane) => push_unready(out, lane),
     }
@@ -100,7 +100,7 @@ pub fn push_answer(out: &mut Vec<u8>, entry: &Entry) -> Result<(), AllocError>
     match entry.answer {
         None => push_text(out, b"pending\n"),
         Some(Ok(reply)) => push_reply(out, reply, &entry.call),
-        Some(Err(fault)) => push_plain(out, Plain::Refused(fault)),
+        Some(Err(fault)) => push_plain(out, Err(Refusal::Fault(fault))),
     }
 }
 
@@ -111,7 +111,7 @@ pub fn push_answers(out: &mut Vec<u8>, turns: &[Turn], log: &[Entry]) -> Result<
     let mut entries = log.iter();
     for turn in turns {
         match turn {
-            Turn::Unreadable(number) => push_plain(out, Plain::Unreadable(*number))?,
+            Turn::Unreadable(number) => push_plain(out, Err(Refusal::Unreadable(*number)))?,
             Turn::Call => {
                 if let Some(entry) = entries.next() {
                     push_answer(out, entry)?;

@@ -13,9 +13,9 @@ fn combined(bytes: &[u8; 8], v: u8) -> u8
     ensures { result ≡ combine bytes.now 0 v }
 {
     let mut sum = 0;
-    for i in 0..8usize {
+    for (i, byte) in bytes.iter().enumerate() {
         if (v >> i) % 2 == 1 {
-            sum ^= bytes[i];
+            sum ^= *byte;
         }
     }
     sum

@@ -1,6 +1,6 @@
 // The inverse of a byte by the tower's formula, from the two parts of the byte.
-ghost use Rattle.std.specs.Prelude.{◌≡◌};
-ghost use Rattle.standard.specs.Field.{inverse};
+ghost use Rattle.std.specs.Prelude.{◌≡◌, bit_xor};
+ghost use Rattle.standard.specs.Field.{mul, inverse};
 ghost use Rattle.coordinates.specs.Tower.{power16, first_of, second_of, over, g_of, InverseByTower, EveryByteOnce};
 
 use standard::field;
@@ -14,17 +14,24 @@ fn middle_power(y: u8) -> u8
     field::mul(y8, y8)
 }
 
+// The sum of a byte and its sixteenth power, each times a byte of its own.
+fn part(of_byte: u8, of_power: u8, u: u8) -> u8
+    ensures { result ≡ bit_xor (mul of_byte u) (mul of_power (power16 u)) }
+{
+    field::mul(of_byte, u) ^ field::mul(of_power, middle_power(u))
+}
+
 // The two parts of a byte: it is first·1b + second·fa.
 pub fn first_of(u: u8) -> u8
     ensures { result ≡ first_of u }
 {
-    field::mul(0x2a, u) ^ field::mul(0x27, middle_power(u))
+    part(0x2a, 0x27, u)
 }
 
 pub fn second_of(u: u8) -> u8
     ensures { result ≡ second_of u }
 {
-    field::mul(0x27, u) ^ field::mul(0x2a, middle_power(u))
+    part(0x27, 0x2a, u)
 }
 
 fn over(p: u8, q: u8) -> u8

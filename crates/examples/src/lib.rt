@@ -4,6 +4,7 @@
 #[cfg(test)]
 mod lines {
     use std::test::Fail;
+    use text::lines::Lines;
     use text::reads::{hex_bytes, number, split_line, split_word};
     use text::writes::{push_hex, push_number, push_text};
 
@@ -15,6 +16,19 @@ mod lines {
         let (word, rest) = split_word(b"  set  1");
         assert_eq!(rt; word, b"set".as_slice());
         assert_eq!(rt; rest, b"  1".as_slice());
+    }
+
+    #[test]
+    fn numbered_lines(rt: HostRuntime) -> Result<(), Fail> {
+        let mut lines = Lines::of(b"set\n\nend");
+        let first = lines.next().ok_or("no line")?;
+        assert_eq!(rt; first.number, 1);
+        assert_eq!(rt; first.text, b"set".as_slice());
+        let second = lines.next().ok_or("no second line")?;
+        assert_eq!(rt; second.number, 2);
+        assert!(rt; second.text.is_empty());
+        assert_eq!(rt; lines.count(), 1);
+        Ok(())
     }
 
     #[test]
@@ -43,8 +57,28 @@ mod lines {
 
 #[cfg(test)]
 mod scripts {
+    use bench::benches::Bench;
+    use playing::benchlines::find_bench;
+    use playing::memory::SetupMemory;
     use playing::runs::play_script;
     use std::test::Fail;
+    use text::lines::Lines;
+
+    #[test]
+    fn zeroed_benches(rt: HostRuntime) -> Result<(), Fail> {
+        let found = find_bench(Lines::of(b"\nbench row 1 9 7 + bench word 8 6\nleft"));
+        let (setup, mut rest) = found.ok().flatten().ok_or("no bench")?;
+        let next = rest.next().ok_or("no line after it")?;
+        assert_eq!(rt; next.number, 3);
+        assert_eq!(rt; next.text, b"left".as_slice());
+        let mut memory = SetupMemory::zeros(rt.alloc(), setup)?;
+        let bench = memory.bench();
+        assert_eq!(rt; bench.registers(), 8);
+        assert_eq!(rt; bench.lanes(), 73);
+        assert_eq!(rt; bench.left(), 6);
+        assert_eq!(rt; bench.show(7, 72).ok(), Some(false));
+        Ok(())
+    }
 
     #[test]
     fn every_lane_of_a_word(rt: HostRuntime) -> Result<(), Fail> {

@@ -1,3 +1,4 @@
 pub mod Laying
 pub mod Bytes
 pub mod Shown
+pub mod Wide

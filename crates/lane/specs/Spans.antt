@@ -36,7 +36,7 @@ abbrev pub shown_at : Model → ℕ → ℕ → ℕ → List ℕ
 shown_at m base lane n = map (λ j. byte_of (λ r. m.bit r lane) (base + 8 * j)) (range_with_len 0 n)
 
 abbrev pub span_answer : Model → ℕ → ℕ → ℕ → Result (Unit {0}) Fault
-span_answer m base n lane = cond (nat_le (base + n) m.registers) (in_lane m lane (Ok tt)) (Err (fault Register Bench (max base m.registers)))
+span_answer m base n lane = cond (nat_le (base + n) m.registers) (in_lane m.lanes lane (Ok tt)) (Err (fault Register Bench (max base m.registers)))
 
 -- a lane with its first n registers zeroed
 abbrev pub zeroed : ℕ → ℕ → Model → Model

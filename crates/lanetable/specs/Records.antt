@@ -3,7 +3,8 @@
 --   promotes r          a record after a scheduling: a placed key is then scheduled
 --   unready r           a block without a scheduled key
 --   lowest_unready rs   the lowest lane of which that holds, if any
-use Rattle.std.specs.Prelude.{ℕ, ◌+◌, Bool, true, false, cond, not, ◌&&◌, ◌||◌, List, [], ◌∷◌, Some, None, Option}
+use Rattle.std.specs.Prelude.{ℕ, Bool, true, false, not, ◌&&◌, List, Option}
+use Rattle.std.specs.List.{list_any, position_from}
 use Rattle.lanetable.specs.declared.records.KeyState.{KeyState}
 use Rattle.lanetable.specs.declared.records.KeyState.TheVariants.{Absent, Placed, Scheduled}
 use Rattle.lanetable.specs.declared.records.LaneRecord.{LaneRecord}
@@ -36,20 +37,17 @@ is_scheduled Placed = false
 is_scheduled Scheduled = true
 
 abbrev pub any_placed : List LaneRecord → Bool
-any_placed [] = false
-any_placed (r ∷ rs) = is_placed r.key || any_placed rs
+any_placed rs = list_any (λ r. is_placed r.key) rs
 
 abbrev pub any_block : List LaneRecord → Bool
-any_block [] = false
-any_block (r ∷ rs) = r.block || any_block rs
+any_block rs = list_any (λ r. r.block) rs
 
 abbrev pub unready : LaneRecord → Bool
 unready r = r.block && not (is_scheduled r.key)
 
 -- from lane n on
 abbrev pub lowest_from : ℕ → List LaneRecord → Option ℕ
-lowest_from n [] = None
-lowest_from n (r ∷ rs) = cond (unready r) (Some n) (lowest_from (n + 1) rs)
+lowest_from n rs = position_from unready n rs
 
 abbrev pub lowest_unready : List LaneRecord → Option ℕ
 lowest_unready rs = lowest_from 0 rs

@@ -4,10 +4,12 @@ use Rattle.standard.specs.Kinds.{KeyKind, aes128}
 use Rattle.player.specs.Pages.{whole, kinds_named, numbers_below}
 use Rattle.plans.specs.declared.plays.Play.{Play}
 use Rattle.plans.specs.declared.plays.Play.TheVariants.{Add, Enter, Invert, Mix, Finish, Copy, Affine, Sum, Leave, Unaffine, Unmix, Rcon1, Rcon2, Rcon3, Rcon4, Rcon5, Rcon6, Rcon7, Rcon8, Rcon9, Rcon10}
+use Rattle.plans.specs.declared.tables.Plan.{Plan}
+use Rattle.plans.specs.declared.tables.Plan.TheVariants.{Schedule, Seal, Open}
 use Rattle.plans.specs.Layout.{room}
 use Rattle.plans.specs.Pages.{add_page, enter_page, mix_page, finish_page, copy_page, affine_page, sum_page, leave_page, unaffine_page, unmix_page, rcon_page, own_inverter}
 use Rattle.plans.specs.Plays.{page_of, plan_gates, fit}
-use Rattle.plans.specs.Plans.{stages_to, seal_plan, words_to, schedule_plan, open_to, open_plan}
+use Rattle.plans.specs.Plans.{stages_to, seal_plan, words_to, schedule_plan, open_to, open_plan, plays_of}
 
 pub seal_count : plan_gates own_inverter (seal_plan aes128) ≡ 21552
 unfolding plan_gates stages_to own_inverter
@@ -32,6 +34,11 @@ open_count = refl
 pub open_fit : (κ : KeyKind) → fit own_inverter (room κ) (open_plan κ) ≡ true
 unfolding fit open_to own_inverter
 open_fit aes128 = refl
+
+pub plays_fit : (p : Plan) (κ : KeyKind) → fit own_inverter (room κ) (plays_of p κ) ≡ true
+plays_fit Schedule = schedule_fit
+plays_fit Seal = seal_fit
+plays_fit Open = open_fit
 
 pub own_whole : whole own_inverter ≡ true
 unfolding own_inverter kinds_named numbers_below

@@ -3,11 +3,14 @@
 --   stage_plan κ n   stage n of a sealing; stages_to κ n, stages 0 to n; seal_plan κ, all
 --   word_plan κ i    word i of a scheduling; words_to κ n, n words behind the key's; schedule_plan κ, all
 --   open_stage κ n   stage n of an opening; open_to κ n, stages 0 to n; open_plan κ, all
+--   plays_of p κ     the three by name; most_gates p, a bound for how many gates they have
 use Rattle.std.specs.Prelude.{ℕ, zero, suc, ◌+◌, ◌-◌, ◌*◌, ◌/◌, ◌%◌, cond, ◌&&◌, List, [], ◌∷◌, ◌++◌, map, ◌==◌, nat_lt, slice_index_or}
 use Rattle.std.specs.List.{range_with_len}
 use Rattle.standard.specs.Kinds.{KeyKind, rounds, key_words, key_bytes}
 use Rattle.plans.specs.Layout.{at, key, free, buffer, scratch}
 use Rattle.plans.specs.declared.plays.Play.{Play}
+use Rattle.plans.specs.declared.tables.Plan.{Plan}
+use Rattle.plans.specs.declared.tables.Plan.TheVariants.{Schedule, Seal, Open}
 use Rattle.plans.specs.declared.plays.Play.TheVariants.{Add, Enter, Invert, Mix, Finish, Copy, Affine, Sum, Leave, Unaffine, Unmix, Rcon1, Rcon2, Rcon3, Rcon4, Rcon5, Rcon6, Rcon7, Rcon8, Rcon9, Rcon10}
 
 -- ---- sealing
@@ -139,3 +142,16 @@ open_to κ (suc n) = open_to κ n ++ open_stage κ (suc n)
 
 abbrev pub open_plan : KeyKind → List Play
 open_plan κ = open_to κ (rounds κ)
+
+-- ---- the three plans by name
+
+abbrev pub plays_of : Plan → KeyKind → List Play
+plays_of Schedule κ = schedule_plan κ
+plays_of Seal κ = seal_plan κ
+plays_of Open κ = open_plan κ
+
+-- no plan has more gates than this
+abbrev pub most_gates : Plan → ℕ
+most_gates Schedule = 20000
+most_gates Seal = 40000
+most_gates Open = 60000

@@ -8,7 +8,8 @@ use crate::pages::{
     RCON_6, RCON_7, RCON_8, RCON_9, RCON_10, SUM, UNAFFINE, UNMIX,
 };
 
-// One base for each socket and one for the scratch.
+// A page and its bases: one for each socket and one for the scratch. The cases stay apart, those of the round constants
+// too: each page has as many bases as its type says, and its own array of bytes.
 #[derive(Clone, Copy)]
 pub enum Play {
     Add([u16; 3]),
@@ -68,27 +69,24 @@ impl Play {
         ensures { result.now ≡ bases_of self.now }
     {
         match self {
-            Play::Add(bases) => bases,
-            Play::Enter(bases) => bases,
-            Play::Invert(bases) => bases,
-            Play::Mix(bases) => bases,
-            Play::Finish(bases) => bases,
-            Play::Copy(bases) => bases,
-            Play::Affine(bases) => bases,
+            Play::Enter(bases)
+            | Play::Affine(bases)
+            | Play::Leave(bases)
+            | Play::Unaffine(bases)
+            | Play::Rcon1(bases)
+            | Play::Rcon2(bases)
+            | Play::Rcon3(bases)
+            | Play::Rcon4(bases)
+            | Play::Rcon5(bases)
+            | Play::Rcon6(bases)
+            | Play::Rcon7(bases)
+            | Play::Rcon8(bases)
+            | Play::Rcon9(bases)
+            | Play::Rcon10(bases) => bases,
+            Play::Add(bases) | Play::Invert(bases) | Play::Finish(bases) | Play::Copy(bases) =>
+                bases,
             Play::Sum(bases) => bases,
-            Play::Leave(bases) => bases,
-            Play::Unaffine(bases) => bases,
-            Play::Unmix(bases) => bases,
-            Play::Rcon1(bases) => bases,
-            Play::Rcon2(bases) => bases,
-            Play::Rcon3(bases) => bases,
-            Play::Rcon4(bases) => bases,
-            Play::Rcon5(bases) => bases,
-            Play::Rcon6(bases) => bases,
-            Play::Rcon7(bases) => bases,
-            Play::Rcon8(bases) => bases,
-            Play::Rcon9(bases) => bases,
-            Play::Rcon10(bases) => bases,
+            Play::Mix(bases) | Play::Unmix(bases) => bases,
         }
     }
 }

@@ -4,7 +4,7 @@ ghost use Rattle.standard.specs.Kinds.{aes128};
 ghost use Rattle.plans.specs.Layout.{room};
 ghost use Rattle.plans.specs.Pages.{own_inverter};
 ghost use Rattle.plans.specs.Plays.{plan_gates};
-ghost use Rattle.plans.specs.Plans.{seal_plan, schedule_plan, open_plan};
+ghost use Rattle.plans.specs.Plans.{plays_of, most_gates};
 
 use crate::plays::Play;
 
@@ -1286,43 +1286,37 @@ pub const OPEN: [Play; 564] = [
     Play::Sum([1656, 248, 120, 1664]),
 ];
 
-pub fn seal_plan() -> &'static [Play]
-    ensures { result.now ≡ seal_plan aes128 }
-{
-    &SEAL
+// The three plans.
+#[derive(Clone, Copy, Debug, PartialEq, Eq)]
+pub enum Plan {
+    Schedule,
+    Seal,
+    Open,
 }
 
-pub fn seal_gates() -> u32
-    ensures count { result ≡ plan_gates own_inverter (seal_plan aes128) }
-    ensures bound { result ≤ 40000 }
-{
-    21_552
-}
+impl Plan {
+    // Its plays, in order.
+    pub fn plays(self) -> &'static [Play]
+        ensures { result.now ≡ plays_of self aes128 }
+    {
+        match self {
+            Plan::Schedule => &SCHEDULE,
+            Plan::Seal => &SEAL,
+            Plan::Open => &OPEN,
+        }
+    }
 
-pub fn schedule_plan() -> &'static [Play]
-    ensures { result.now ≡ schedule_plan aes128 }
-{
-    &SCHEDULE
-}
-
-pub fn schedule_gates() -> u32
-    ensures count { result ≡ plan_gates own_inverter (schedule_plan aes128) }
-    ensures bound { result ≤ 20000 }
-{
-    6_744
-}
-
-pub fn open_plan() -> &'static [Play]
-    ensures { result.now ≡ open_plan aes128 }
-{
-    &OPEN
-}
-
-pub fn open_gates() -> u32
-    ensures count { result ≡ plan_gates own_inverter (open_plan aes128) }
-    ensures bound { result ≤ 60000 }
-{
-    27_324
+    // How many gates the pages of its plays have.
+    pub fn gates(self) -> u32
+        ensures count { result ≡ plan_gates own_inverter (plays_of self aes128) }
+        ensures bound { result ≤ most_gates self }
+    {
+        match self {
+            Plan::Schedule => 6_744,
+            Plan::Seal => 21_552,
+            Plan::Open => 27_324,
+        }
+    }
 }
 
 // The registers that a bench needs at least.

@@ -1,6 +1,6 @@
 -- Pages: when one is whole, and its gates. Assumes nothing.
-use Rattle.std.specs.Prelude.{◌≡◌, ℕ, zero, suc, ◌+◌, ◌*◌, ◌/◌, Bool, true, ◌&&◌, leb, List, map, length, take, drop, ◌==◌, nat_le, nat_lt, slice_index}
-use Rattle.std.specs.List.{range_with_len}
+use Rattle.std.specs.Prelude.{◌≡◌, ℕ, zero, suc, ◌+◌, ◌*◌, Bool, ◌&&◌, List, [], ◌∷◌, map, length, take, drop, ◌==◌, nat_le, nat_lt, slice_index}
+use Rattle.std.specs.List.{range_with_len, list_all}
 use Rattle.bench.specs.declared.kinds.Kind.{Kind}
 use Rattle.bench.specs.declared.kinds.Kind.TheVariants.{Xor, And, Or, Xnor, Nand, Nor}
 use Rattle.bench.specs.declared.gates.Gate.{Gate}
@@ -18,10 +18,11 @@ kind_at (suc (suc (suc (suc (suc n))))) = Nor
 abbrev pub pair : List ℕ → ℕ → ℕ
 pair bytes at = slice_index bytes at * 256 + slice_index bytes (at + 1)
 
--- whether f holds of each number below n
-abbrev pub every_below : ℕ → (ℕ → Bool) → Bool
-every_below zero f = true
-every_below (suc n) f = f n && every_below n f
+-- the numbers of two bytes each, high byte first
+abbrev pub numbers_in : List ℕ → List ℕ
+numbers_in [] = []
+numbers_in (h ∷ []) = []
+numbers_in (h ∷ l ∷ rest) = (h * 256 + l) ∷ numbers_in rest
 
 abbrev pub gates_in : List ℕ → ℕ
 gates_in bytes = pair bytes 0
@@ -42,10 +43,10 @@ abbrev pub sizes_fit : ℕ → ℕ → ℕ → Bool
 sizes_fit g q c = nat_le g 2000 && (nat_le 1 q && (nat_le q 16 && nat_le c 512))
 
 unfoldable pub kinds_named : List ℕ → Bool
-kinds_named kinds = every_below (length kinds) (λ i. leb (slice_index kinds i) 5)
+kinds_named kinds = list_all (λ k. nat_le k 5) kinds
 
 unfoldable pub numbers_below : List ℕ → ℕ → Bool
-numbers_below places bound = every_below (length places / 2) (λ j. nat_lt (pair places (2 * j)) bound)
+numbers_below places bound = list_all (λ n. nat_lt n bound) (numbers_in places)
 
 abbrev pub whole : List ℕ → Bool
 whole bytes =
@@ -69,6 +70,10 @@ gate_at kinds places at = record {
   first = pair places (6 * at + 2);
   second = pair places (6 * at + 4);
 }
+
+-- the gates of the kinds and the places of a page
+unfoldable pub gates_from : List ℕ → List ℕ → List Gate
+gates_from kinds places = map (gate_at kinds places) (range_with_len 0 (length kinds))
 
 unfoldable pub gates_of : List ℕ → List Gate
 gates_of bytes = map (gate_at (kinds_in bytes) (places_in bytes)) (range_with_len 0 (gates_in bytes))

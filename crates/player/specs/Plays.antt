@@ -1,10 +1,10 @@
 -- Plays: the questions in their order, and the gates done one after another. Assumes nothing.
-use Rattle.std.specs.Prelude.{ℕ, zero, suc, ◌+◌, ◌-◌, ◌*◌, ◌/◌, ◌%◌, Bool, cond, List, map, length, Some, None, Ok, Err, Option, Result, ◌==◌, nat_lt, slice_index}
-use Rattle.bench.specs.declared.faults.Question.TheVariants.{Whole, Bases, Gates}
+use Rattle.std.specs.Prelude.{ℕ, zero, suc, ◌+◌, ◌-◌, ◌*◌, ◌/◌, ◌%◌, ◌<◌, Bool, cond, List, map, length, Some, None, Err, Option, Result, ◌==◌, nat_lt, slice_index}
+use Rattle.bench.specs.declared.faults.Question.TheVariants.{Whole, Bases}
 use Rattle.bench.specs.declared.faults.Part.TheVariants.{Player, Reader}
 use Rattle.bench.specs.declared.faults.Fault.{Fault}
 use Rattle.bench.specs.Faults.{fault}
-use Rattle.bench.specs.Model.{Model, Memory}
+use Rattle.bench.specs.Model.{Model, Memory, gates_answer}
 pub use Rattle.bench.specs.Gates.{ran, ran_in}
 use Rattle.bench.specs.declared.gates.Gate.{Gate}
 use Rattle.player.specs.Pages.{whole, gates_in, sockets_in, scratch_in, gates_of}
@@ -20,6 +20,10 @@ placed q bases g = record {
   first = register_of q bases g.first;
   second = register_of q bases g.second;
 }
+
+-- all three numbers of a gate are below n
+abbrev pub Within : ℕ → Gate → Type 0
+Within n g = (g.target < n) × ((g.first < n) × (g.second < n))
 
 abbrev pub earlier : Option ℕ → Option ℕ → Option ℕ
 earlier (Some i) o = Some i
@@ -43,7 +47,7 @@ ask_bases (Some i) next = Err (fault Bases Player i)
 ask_bases None next = next
 
 abbrev pub ask_gates : ℕ → ℕ → Result (Unit {0}) Fault
-ask_gates needed left = cond (nat_lt left needed) (Err (fault Gates Player (needed - left))) (Ok tt)
+ask_gates needed left = gates_answer Player needed left
 
 abbrev pub play_answer : Model → List ℕ → List ℕ → Result (Unit {0}) Fault
 play_answer m bytes bases =

@@ -1,4 +1,3 @@
 pub mod Places
 pub mod Benches
 pub mod Written
-pub mod Scripts

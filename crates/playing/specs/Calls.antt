@@ -2,7 +2,8 @@
 --
 --   Call                   a call of a script, with its numbers and bytes as lists
 --   meant c                the call that a command stands for
---   done_or r, bit_or r    the answer to a call that a bench or the player did or refused
+--   Answer                 a reply, or why there is none
+--   answered reply r       the answer to a call that a bench or the player did, with what the reply tells of it, or refused
 --   page_answer bytes      the answer to a page
 --   call_answer m p c      the answer to the call c, on a bench of the meaning m with the page p kept
 --   call_leaves m p c      the meaning after that call
@@ -19,8 +20,10 @@ use Rattle.player.specs.Pages.{whole, gates_in, sockets_in, scratch_in}
 use Rattle.player.specs.Plays.{play_answer, played, played_in}
 use Rattle.playing.specs.declared.commands.Command.{Command}
 use Rattle.playing.specs.declared.commands.Command.TheVariants as command
-use Rattle.playing.specs.declared.answers.Answer.{Answer}
-use Rattle.playing.specs.declared.answers.Answer.TheVariants.{Done, Registers, Lanes, Left, Bit, Page, Refused}
+use Rattle.playing.specs.declared.answers.Reply.{Reply}
+use Rattle.playing.specs.declared.answers.Reply.TheVariants.{Done, Registers, Lanes, Left, Bit, Page}
+use Rattle.playing.specs.declared.answers.Refusal.{Refusal}
+use Rattle.playing.specs.declared.answers.Refusal.TheVariants as refusal
 
 pub data Call : Type 0 where
   registers : Call
@@ -42,26 +45,25 @@ meant (command.Gate g) = gates g.kind g.target g.first g.second
 meant (command.Page v) = page (vec_items v)
 meant (command.Play v) = play (vec_items v)
 
-abbrev pub done_or : Result (Unit {0}) Fault → Answer
-done_or (Ok x) = Done
-done_or (Err f) = Refused f
+abbrev pub Answer : Type 0
+Answer = Result Reply Refusal
 
-abbrev pub bit_or : Result Bool Fault → Answer
-bit_or (Ok b) = Bit b
-bit_or (Err f) = Refused f
+abbrev pub answered : {X : Type 0} → (X → Reply) → Result X Fault → Answer
+answered reply (Ok x) = Ok (reply x)
+answered reply (Err f) = Err (refusal.Fault f)
 
 abbrev pub page_answer : List ℕ → Answer
-page_answer bytes = cond (whole bytes) (Page (gates_in bytes) (sockets_in bytes) (scratch_in bytes)) (Refused (fault Whole Reader 0))
+page_answer bytes = cond (whole bytes) (Ok (Page (gates_in bytes) (sockets_in bytes) (scratch_in bytes))) (Err (refusal.Fault (fault Whole Reader 0)))
 
 abbrev pub call_answer : Model → List ℕ → Call → Answer
-call_answer m p registers = Registers m.registers
-call_answer m p lanes = Lanes m.lanes
-call_answer m p left = Left m.left
-call_answer m p (sets r l b) = done_or (set_answer m r l)
-call_answer m p (shows r l) = bit_or (show_answer m r l)
-call_answer m p (gates k t a b) = done_or (gate_answer m t a b)
+call_answer m p registers = Ok (Registers m.registers)
+call_answer m p lanes = Ok (Lanes m.lanes)
+call_answer m p left = Ok (Left m.left)
+call_answer m p (sets r l b) = answered (λ _. Done) (set_answer m r l)
+call_answer m p (shows r l) = answered Bit (show_answer m r l)
+call_answer m p (gates k t a b) = answered (λ _. Done) (gate_answer m t a b)
 call_answer m p (page bytes) = page_answer bytes
-call_answer m p (play bases) = done_or (play_answer m p bases)
+call_answer m p (play bases) = answered (λ _. Done) (play_answer m p bases)
 
 abbrev pub call_leaves : Model → List ℕ → Call → Model
 call_leaves m p registers = m

@@ -1,5 +1,6 @@
 pub mod Calls
 pub mod Commands
 pub mod Setups
+pub mod Memory
 pub mod Answers
 pub mod Runs

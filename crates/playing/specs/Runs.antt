@@ -8,25 +8,25 @@
 --   line_keeps p l        the page kept after it
 --   answers m p n ls      what is written for the lines ls, of which the first is line n
 --   outcome room m n ls   the same for a bench of the meaning m at first; room says whether there was memory for it
---   opened room n o ls    what is written from line n on, which is to write the bench and writes o
---   from_line room n ls   what is written from line n on, where no bench stands yet
+--   opened room o         what is written where the bench and the lines after it are o
 --   script_text room t    what is written for the script t
 --   Answered, Stepped     one line answered, and one line done
 --   Wrote                 the outcome appended, with memory for the bench or without
-use Rattle.std.specs.Prelude.{◌≡◌, ℕ, ◌+◌, Bool, cond, List, [], ◌∷◌, ◌++◌, Some, None, codes, Option}
+use Rattle.std.specs.Prelude.{◌≡◌, ℕ, ◌+◌, Bool, cond, List, [], ◌∷◌, ◌++◌, Some, None, Ok, Err, codes, Option, Result}
 use Rattle.bench.specs.Model.{Model}
 use Rattle.text.specs.Text.{lines_in}
-use Rattle.playing.specs.declared.answers.Answer.{Answer}
-use Rattle.playing.specs.declared.answers.Answer.TheVariants.{Unreadable}
+use Rattle.text.specs.Ahead.{Ahead}
+use Rattle.playing.specs.declared.answers.Refusal.{Refusal}
+use Rattle.playing.specs.declared.answers.Refusal.TheVariants.{Unreadable}
 use Rattle.playing.specs.declared.setups.Setup.{Setup}
 use Rattle.playing.specs.Answers.{answer_line}
-use Rattle.playing.specs.Calls.{Call, call_answer, call_leaves, call_keeps}
+use Rattle.playing.specs.Calls.{Call, Answer, call_answer, call_leaves, call_keeps}
 use Rattle.playing.specs.Commands.{silent, command_in}
-use Rattle.playing.specs.Setups.{bench_in, opens}
+use Rattle.playing.specs.Setups.{opening_in, opens}
 
 -- a line that is not silent, at the call that it writes
 abbrev pub answer_to : Model → List ℕ → ℕ → Option Call → Answer
-answer_to m p n None = Unreadable n
+answer_to m p n None = Err (Unreadable n)
 answer_to m p n (Some c) = call_answer m p c
 
 abbrev pub leaves : Model → List ℕ → Option Call → Model
@@ -55,17 +55,14 @@ answers m p n (l ∷ ls) = line_text m p n l ++ answers (line_leaves m p l) (lin
 abbrev pub outcome : Bool → Model → ℕ → List (List ℕ) → List ℕ
 outcome room m n ls = cond room (answers m [] n ls) (codes "no memory" ++ (10 ∷ []))
 
--- from the line n on that is to write the bench
-abbrev pub opened : Bool → ℕ → Option Setup → List (List ℕ) → List ℕ
-opened room n None ls = answer_line (Unreadable n)
-opened room n (Some s) ls = outcome room (opens s) (n + 1) ls
-
-abbrev pub from_line : Bool → ℕ → List (List ℕ) → List ℕ
-from_line room n [] = []
-from_line room n (l ∷ ls) = cond (silent l) (from_line room (n + 1) ls) (opened room n (bench_in l) ls)
+-- where the bench line is read, or none is
+abbrev pub opened : Bool → Result (Option (Setup × Ahead)) Refusal → List ℕ
+opened room (Ok None) = []
+opened room (Ok (Some o)) = outcome room (opens o.0) o.1.next o.1.lines
+opened room (Err r) = answer_line (Err r)
 
 abbrev pub script_text : Bool → List ℕ → List ℕ
-script_text room text = from_line room 1 (lines_in text)
+script_text room text = opened room (opening_in 1 (lines_in text))
 
 -- one line answered, where it is not silent: the answer, the meaning after it and the page kept after it
 pub record Answered (m : Model) (p : List ℕ) (n : ℕ) (l : List ℕ) (a : Answer) (m' : Model) (p' : List ℕ) : Type 0 where

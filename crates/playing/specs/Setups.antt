@@ -11,16 +11,22 @@
 --   first_in o ws        the same, where the first bench could be read
 --   setup_in ws          the bench that the words ws write: one, or two side by side
 --   bench_in l           the bench that the line l writes
+--   opening_in n ls      what the first line that is not silent says, of the lines ls, of which the first is line n: the bench that it
+--                        writes, with the lines after it, or that it cannot be read; nothing where every line is silent
 --   opens_one s          the meaning of one bench at first
 --   beside m o           a bench of the meaning m with a second one beside it, if any
 --   opens s              the meaning at first of the bench that is written
-use Rattle.std.specs.Prelude.{ℕ, min, cond, List, [], length, drop, replicate, Some, None, codes, Option, ◌==◌, slice_index_or}
+use Rattle.std.specs.Prelude.{ℕ, ◌+◌, min, cond, List, [], ◌∷◌, length, drop, replicate, Some, None, Ok, Err, codes, Option, Result, ◌==◌, slice_index_or}
 use Rattle.std.specs.Str.{bytes_eq}
 use Rattle.bench.specs.Model.{Model}
 use Rattle.bench.specs.Word.{word_model}
 use Rattle.bench.specs.Row.{row_model}
 use Rattle.bench.specs.Side.{side_model}
 use Rattle.text.specs.Text.{number_in, words_in}
+use Rattle.text.specs.Ahead.{Ahead}
+use Rattle.playing.specs.declared.answers.Refusal.{Refusal}
+use Rattle.playing.specs.declared.answers.Refusal.TheVariants.{Unreadable}
+use Rattle.playing.specs.Commands.{silent}
 use Rattle.playing.specs.declared.setups.Single.{Single}
 use Rattle.playing.specs.declared.setups.Single.TheVariants.{Word, Row}
 use Rattle.playing.specs.declared.setups.Setup.{Setup}
@@ -75,6 +81,15 @@ setup_in ws = cond (bytes_eq (slice_index_or ws 0 []) (codes "bench")) (first_in
 
 unfoldable pub bench_in : List ℕ → Option Setup
 bench_in l = setup_in (words_in l)
+
+-- line n, which is to write the bench, and the lines after it
+abbrev pub opening_at : ℕ → List (List ℕ) → Option Setup → Result (Option (Setup × Ahead)) Refusal
+opening_at n ls None = Err (Unreadable n)
+opening_at n ls (Some s) = Ok (Some (s, record { next = n + 1; lines = ls }))
+
+abbrev pub opening_in : ℕ → List (List ℕ) → Result (Option (Setup × Ahead)) Refusal
+opening_in n [] = Ok None
+opening_in n (l ∷ ls) = cond (silent l) (opening_in (n + 1) ls) (opening_at n ls (bench_in l))
 
 abbrev pub opens_one : Single → Model
 opens_one (Word n a) = word_model (replicate n 0) a

@@ -1,8 +1,10 @@
-// What is answered to a line.
+// What is answered to a line: the reply of a call that is done, or why none is.
+ghost use Rattle.std.specs.Prelude.{◌≡◌};
+
 use bench::faults::Fault;
 
 #[derive(Clone, Copy)]
-pub enum Answer {
+pub enum Reply {
     Done,
     Registers(u16),
     Lanes(u16),
@@ -13,6 +15,23 @@ pub enum Answer {
         sockets: u16,
         scratch: u16,
     },
-    Refused(Fault),
+}
+
+#[derive(Clone, Copy)]
+pub enum Refusal {
+    Fault(Fault),
+    // The line of this number cannot be read.
     Unreadable(u64),
 }
+
+impl From<Fault> for Refusal {
+    ghost use Rattle.playing.specs.declared.answers.Refusal.TheVariants as refusal;
+
+    ghost from_gives = { λ f r. r ≡ refusal.Fault f };
+
+    fn from(fault: Fault) -> Refusal {
+        Refusal::Fault(fault)
+    }
+}
+
+pub type Answer = Result<Reply, Refusal>;

@@ -1,9 +1,12 @@
 // Reading the line that writes the bench.
 ghost use Rattle.std.specs.Prelude.{◌≡◌, min, drop, Some, None, MatchOption};
 ghost use Rattle.text.specs.Text.{number_in, word_of, after_word, words_in};
-ghost use Rattle.playing.specs.Setups.{words_of, single_in, past_bench, joined_in, bench_in};
+ghost use Rattle.playing.specs.Setups.{words_of, single_in, past_bench, joined_in, bench_in, opening_in};
 
+use crate::answers::Refusal;
+use crate::readers::is_silent;
 use crate::setups::{Setup, Single};
+use text::lines::Lines;
 use text::reads::{is_word, number, split_word};
 
 const MOST_ALLOTMENT: u64 = 1_000_000_000;
@@ -94,4 +97,17 @@ pub fn read_bench(line: &[u8]) -> Option<Setup>
     }
     let (first, rest) = read_single(rest)?;
     read_joined(first, rest)
+}
+
+// The bench of the first line that is not silent, and the lines after it.
+pub fn find_bench(mut lines: Lines<'_>) -> Result<Option<(Setup, Lines<'_>)>, Refusal>
+    ensures { result ≡ opening_in lines.entry.next lines.entry.lines }
+{
+    while let Some(line) = lines.next() {
+        if !is_silent(line.text) {
+            let setup = read_bench(line.text).ok_or(Refusal::Unreadable(line.number))?;
+            return Ok(Some((setup, lines)));
+        }
+    }
+    Ok(None)
 }

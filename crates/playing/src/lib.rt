@@ -4,6 +4,7 @@
 pub mod answers;
 pub mod benchlines;
 pub mod commands;
+pub mod memory;
 pub mod performs;
 pub mod readers;
 pub mod runs;

@@ -111,7 +111,7 @@ fn gate_command(numbers: &[u16]) -> Option<Command>
     if numbers.len() != 4 || numbers[0] > 5 {
         return None;
     }
-    let kind = Kind::from_byte(numbers[0] as u8)?;
+    let kind = Kind::try_from(numbers[0] as u8).ok()?;
     Some(Command::Gate(Gate {
         kind,
         target: numbers[1],

@@ -1,22 +1,20 @@
 // A whole script.
-ghost use Rattle.std.specs.Prelude.{◌≡◌, ◌+◌, ◌^◌, ◌<◌, Bool, [], ◌∷◌, ◌++◌, length, IfOk, codes, OnOk};
+ghost use Rattle.std.specs.Prelude.{◌≡◌, Bool, [], ◌∷◌, ◌++◌, IfOk, codes, OnOk};
 ghost use Rattle.bench.specs.Model.{told};
-ghost use Rattle.text.specs.Text.{lines_in};
-ghost use Rattle.playing.specs.Setups.{beside, opens};
+ghost use Rattle.playing.specs.Setups.{opens};
 ghost use Rattle.playing.specs.Runs.{answers, Answered, Stepped, Wrote, script_text};
 
-use crate::answers::Answer;
-use crate::benchlines::read_bench;
+use crate::answers::{Answer, Refusal};
+use crate::benchlines::find_bench;
+use crate::memory::SetupMemory;
 use crate::performs::perform;
 use crate::readers::{is_silent, read_command};
-use crate::setups::{Setup, Single};
+use crate::setups::Setup;
 use crate::writers::push_answer;
 use bench::benches::Bench;
-use bench::row::RowBench;
-use bench::side::SideBySide;
-use bench::word::WordBench;
+use bench::either::EitherBench;
 use std::alloc::{AllocError, Global};
-use text::reads::split_line;
+use text::lines::{Line, Lines};
 use text::writes::push_text;
 
 // The answer to a line that is not silent.
@@ -24,14 +22,13 @@ fn respond<B: Bench>(
     heap: Global,
     bench: &mut B,
     kept: &mut Vec<u8>,
-    line: &[u8],
-    number: u64,
+    line: Line<'_>,
 ) -> Result<Answer, AllocError>
-    ensures { IfOk result (λ a. Answered (told B.registers B.lanes B.left B.shows bench.old) kept.old.items number line.now a (told B.registers B.lanes B.left B.shows bench.new) kept.new.items) }
+    ensures { IfOk result (λ a. Answered (told B.registers B.lanes B.left B.shows bench.old) kept.old.items line.entry.number line.entry.text.now a (told B.registers B.lanes B.left B.shows bench.new) kept.new.items) }
 {
-    match read_command(heap, line)? {
+    match read_command(heap, line.text)? {
         Some(command) => Ok(perform(bench, kept, command)),
-        None => Ok(Answer::Unreadable(number)),
+        None => Ok(Err(Refusal::Unreadable(line.number))),
     }
 }
 
@@ -40,38 +37,30 @@ fn answer_line<B: Bench>(
     heap: Global,
     bench: &mut B,
     kept: &mut Vec<u8>,
-    line: &[u8],
-    number: u64,
+    line: Line<'_>,
     out: &mut Vec<u8>,
 ) -> Result<(), AllocError>
-    ensures { OnOk result (Stepped (told B.registers B.lanes B.left B.shows bench.old) kept.old.items number line.now out.old.items out.new.items (told B.registers B.lanes B.left B.shows bench.new) kept.new.items) }
+    ensures { OnOk result (Stepped (told B.registers B.lanes B.left B.shows bench.old) kept.old.items line.entry.number line.entry.text.now out.old.items out.new.items (told B.registers B.lanes B.left B.shows bench.new) kept.new.items) }
 {
-    if is_silent(line) {
+    if is_silent(line.text) {
         return Ok(());
     }
-    let answer = respond(heap, bench, kept, line, number)?;
+    let answer = respond(heap, bench, kept, line)?;
     push_answer(out, answer)
 }
 
-// Answers the lines of the text, before which `passed` lines stood.
+// Answers the lines.
 fn run<B: Bench>(
     heap: Global,
     bench: &mut B,
-    text: &[u8],
-    passed: u64,
+    lines: Lines<'_>,
     out: &mut Vec<u8>,
 ) -> Result<(), AllocError>
-    requires { passed + length text.now < 2 ^ 64 }
-    ensures { OnOk result (out.new.items ≡ out.old.items ++ answers (told B.registers B.lanes B.left B.shows bench.old) [] (passed + 1) (lines_in text.now)) }
+    ensures { OnOk result (out.new.items ≡ out.old.items ++ answers (told B.registers B.lanes B.left B.shows bench.old) [] lines.entry.next lines.entry.lines) }
 {
     let mut page = Vec::new(heap);
-    let mut rest = text;
-    let mut number = passed;
-    while !rest.is_empty() {
-        let (line, after) = split_line(rest);
-        rest = after;
-        number += 1;
-        answer_line(heap, bench, &mut page, line, number, out)?;
+    for line in lines {
+        answer_line(heap, bench, &mut page, line, out)?;
     }
     Ok(())
 }
@@ -82,81 +71,22 @@ fn push_no_memory(out: &mut Vec<u8>) -> Result<(), AllocError>
     push_text(out, b"no memory\n")
 }
 
-// Answers the text on the first bench, beside which the second stands, if any.
-fn run_beside<F: Bench + Drop>(
-    heap: Global,
-    mut first: F,
-    second: Option<Single>,
-    text: &[u8],
-    passed: u64,
-    out: &mut Vec<u8>,
-) -> Result<(), AllocError>
-    requires { passed + length text.now < 2 ^ 64 }
-    ensures { OnOk result (Wrote (beside (told F.registers F.lanes F.left F.shows first) second) (passed + 1) (lines_in text.now) out.old.items out.new.items) }
-{
-    match second {
-        None => run(heap, &mut first, text, passed, out),
-        Some(
-            Single::Word {
-                registers,
-                allotment,
-            },
-        ) => {
-            let Ok(mut words) = vec![in heap; 0u64; registers] else {
-                return push_no_memory(out);
-            };
-            let second = WordBench::new(words.as_mut_slice(), allotment);
-            run(heap, &mut SideBySide { first, second }, text, passed, out)
-        }
-        Some(
-            Single::Row {
-                width,
-                bytes,
-                allotment,
-            },
-        ) => {
-            let Ok(mut rows) = vec![in heap; 0u8; bytes] else {
-                return push_no_memory(out);
-            };
-            let second = RowBench::new(rows.as_mut_slice(), width, allotment);
-            run(heap, &mut SideBySide { first, second }, text, passed, out)
-        }
-    }
-}
-
-// Answers the text on the bench of the setup, over memory of zeros.
+// Answers the lines on the bench of the setup, over memory of zeros.
 fn run_setup(
     heap: Global,
     setup: Setup,
-    text: &[u8],
-    passed: u64,
+    lines: Lines<'_>,
     out: &mut Vec<u8>,
 ) -> Result<(), AllocError>
-    requires { passed + length text.now < 2 ^ 64 }
-    ensures { OnOk result (Wrote (opens setup) (passed + 1) (lines_in text.now) out.old.items out.new.items) }
+    ensures { OnOk result (Wrote (opens setup) lines.entry.next lines.entry.lines out.old.items out.new.items) }
 {
-    match setup.first {
-        Single::Word {
-            registers,
-            allotment,
-        } => {
-            let Ok(mut words) = vec![in heap; 0u64; registers] else {
-                return push_no_memory(out);
-            };
-            let first = WordBench::new(words.as_mut_slice(), allotment);
-            run_beside(heap, first, setup.second, text, passed, out)
-        }
-        Single::Row {
-            width,
-            bytes,
-            allotment,
-        } => {
-            let Ok(mut rows) = vec![in heap; 0u8; bytes] else {
-                return push_no_memory(out);
-            };
-            let first = RowBench::new(rows.as_mut_slice(), width, allotment);
-            run_beside(heap, first, setup.second, text, passed, out)
-        }
+    let Ok(mut memory) = SetupMemory::zeros(heap, setup) else {
+        return push_no_memory(out);
+    };
+    // A bench of words is played as such: asking at each gate which bench there is takes an eighth more time.
+    match memory.bench() {
+        EitherBench::Left(mut words) => run(heap, &mut words, lines, out),
+        EitherBench::Right(mut other) => run(heap, &mut other, lines, out),
     }
 }
 
@@ -165,19 +95,10 @@ pub fn play_script(heap: Global, script: &[u8]) -> Result<Vec<u8>, AllocError>
     ensures { IfOk result (λ v. (room : Bool) × (v.items ≡ script_text room script.now)) }
 {
     let mut out = Vec::new(heap);
-    let mut rest = script;
-    let mut number = 0;
-    while !rest.is_empty() {
-        let (line, after) = split_line(rest);
-        rest = after;
-        number += 1;
-        if !is_silent(line) {
-            match read_bench(line) {
-                Some(setup) => run_setup(heap, setup, rest, number, &mut out)?,
-                None => push_answer(&mut out, Answer::Unreadable(number))?,
-            }
-            return Ok(out);
-        }
+    match find_bench(Lines::of(script)) {
+        Ok(None) => {}
+        Ok(Some((setup, lines))) => run_setup(heap, setup, lines, &mut out)?,
+        Err(refusal) => push_answer(&mut out, Err(refusal))?,
     }
     Ok(out)
 }

@@ -1,8 +1,8 @@
 // Writing an answer.
 ghost use Rattle.std.specs.Prelude.{◌≡◌, ◌++◌, OnOk};
-ghost use Rattle.playing.specs.Answers.{spaced, part_name, answer_text, answer_line};
+ghost use Rattle.playing.specs.Answers.{spaced, part_name, reply_text, refusal_text, answer_line};
 
-use crate::answers::Answer;
+use crate::answers::{Answer, Refusal, Reply};
 use bench::faults::{Fault, Part};
 use std::alloc::AllocError;
 use text::writes::{push_number, push_text};
@@ -36,8 +36,8 @@ fn push_part(out: &mut Vec<u8>, part: Part) -> Result<(), AllocError>
     }
 }
 
-fn push_refusal(out: &mut Vec<u8>, fault: Fault) -> Result<(), AllocError>
-    ensures { OnOk result (out.new.items ≡ out.old.items ++ answer_text (Answer.Refused fault)) }
+fn push_fault(out: &mut Vec<u8>, fault: Fault) -> Result<(), AllocError>
+    ensures { OnOk result (out.new.items ≡ out.old.items ++ refusal_text (Refusal.Fault fault)) }
 {
     push_counts(out, b"refused", &[fault.number() as u64])?;
     push_text(out, b" ")?;
@@ -45,16 +45,25 @@ fn push_refusal(out: &mut Vec<u8>, fault: Fault) -> Result<(), AllocError>
     push_spaced(out, &[fault.place])
 }
 
-fn push_reply(out: &mut Vec<u8>, answer: Answer) -> Result<(), AllocError>
-    ensures { OnOk result (out.new.items ≡ out.old.items ++ answer_text answer) }
+fn push_refusal(out: &mut Vec<u8>, refusal: Refusal) -> Result<(), AllocError>
+    ensures { OnOk result (out.new.items ≡ out.old.items ++ refusal_text refusal) }
 {
-    match answer {
-        Answer::Done => push_text(out, b"ok"),
-        Answer::Registers(n) => push_counts(out, b"registers", &[n as u64]),
-        Answer::Lanes(n) => push_counts(out, b"lanes", &[n as u64]),
-        Answer::Left(n) => push_counts(out, b"left", &[n as u64]),
-        Answer::Bit(bit) => push_counts(out, b"bit", &[bit as u64]),
-        Answer::Page {
+    match refusal {
+        Refusal::Fault(fault) => push_fault(out, fault),
+        Refusal::Unreadable(line) => push_counts(out, b"unreadable", &[line]),
+    }
+}
+
+fn push_reply(out: &mut Vec<u8>, reply: Reply) -> Result<(), AllocError>
+    ensures { OnOk result (out.new.items ≡ out.old.items ++ reply_text reply) }
+{
+    match reply {
+        Reply::Done => push_text(out, b"ok"),
+        Reply::Registers(n) => push_counts(out, b"registers", &[n as u64]),
+        Reply::Lanes(n) => push_counts(out, b"lanes", &[n as u64]),
+        Reply::Left(n) => push_counts(out, b"left", &[n as u64]),
+        Reply::Bit(bit) => push_counts(out, b"bit", &[bit as u64]),
+        Reply::Page {
             gates,
             sockets,
             scratch,
@@ -63,8 +72,6 @@ fn push_reply(out: &mut Vec<u8>, answer: Answer) -> Result<(), AllocError>
             b"page",
             &[gates as u64, sockets as u64, scratch as u64],
         ),
-        Answer::Refused(fault) => push_refusal(out, fault),
-        Answer::Unreadable(line) => push_counts(out, b"unreadable", &[line]),
     }
 }
 
@@ -72,6 +79,9 @@ fn push_reply(out: &mut Vec<u8>, answer: Answer) -> Result<(), AllocError>
 pub fn push_answer(out: &mut Vec<u8>, answer: Answer) -> Result<(), AllocError>
     ensures { OnOk result (out.new.items ≡ out.old.items ++ answer_line answer) }
 {
-    push_reply(out, answer)?;
+    match answer {
+        Ok(reply) => push_reply(out, reply)?,
+        Err(refusal) => push_refusal(out, refusal)?,
+    }
     push_text(out, b"\n")
 }

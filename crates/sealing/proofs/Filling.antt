@@ -1,6 +1,6 @@
 -- The lanes of a unit filled with a key and blocks, scheduled and sealed. Assumes nothing.
-use Rattle.std.proofs.Common.{◌≡◌, ℕ, zero, suc, ◌+◌, ◌-◌, ◌*◌, ◌<◌, ◌≤◌, Bool, true, false, cond, eqb, ltb, leb, List, [], ◌∷◌, ◌++◌, map, length, get_or, take, drop, set, replicate, Some, None, Option, sym, refl, ap, ◌∙◌, subst, ⊎_elim, arith, lit<}
-use Rattle.std.proofs.lemmas.List.{length-replicate, length-take, length-drop, get_or-drop}
+use Rattle.std.proofs.Common.{◌≡◌, ℕ, zero, suc, ◌+◌, ◌-◌, ◌<◌, ◌≤◌, Bool, true, false, cond, eqb, ltb, leb, List, [], ◌∷◌, ◌++◌, map, length, get_or, set, replicate, Some, None, Option, sym, refl, ap, ◌∙◌, subst, ⊎_elim, arith}
+use Rattle.std.proofs.lemmas.List.{length-replicate}
 use Rattle.std.proofs.lemmas.Bool.{and_from, le-leb, lt-ltb, eq-eqb, ne_eqb, cases_eq}
 use Rattle.standard.specs.Kinds.{encrypted}
 use Rattle.bench.specs.declared.faults.Fault.{Fault}
@@ -21,7 +21,6 @@ use Rattle.unit.proofs.Settled.{Sized}
 use Rattle.law.specs.Calls.{Asked, place_key, place_block, schedule, seal, refusal, done, next}
 use Rattle.law.specs.Book.{Page, Book, blank, wrote, turned as turned_page}
 use Rattle.law.proofs.Holds.{Holds, HoldsBlock, made_holds, done_holds}
-use Rattle.sealing.specs.Sealed.{key_in, block_in}
 use Rattle.sealing.specs.Steps.{filled, turned}
 
 -- ---- bytes
@@ -29,20 +28,10 @@ use Rattle.sealing.specs.Steps.{filled, turned}
 abbrev pub Bytes : List ℕ → Type 0
 Bytes xs = (j : ℕ) → get_or xs j 0 < 256
 
-take_bytes : (n : ℕ) (xs : List ℕ) → Bytes xs → Bytes (take n xs)
-take_bytes zero xs h j = lit< tt
-take_bytes (suc n) [] h j = lit< tt
-take_bytes (suc n) (x ∷ xs) h zero = h 0
-take_bytes (suc n) (x ∷ xs) h (suc j) = take_bytes n xs (λ k. h (suc k)) j
-
-drop_bytes : (n : ℕ) (xs : List ℕ) → Bytes xs → Bytes (drop n xs)
-drop_bytes n xs h j = subst (λ x. x < 256) (sym (get_or-drop n xs j 0)) (h (n + j))
-
-key_length : (input : List ℕ) → 16 ≤ length input → length (key_in input) ≡ 16
-key_length input h = simp length-take (omega arith)
-
-block_length : (input : List ℕ) (i : ℕ) → 16 * (i + 1) + 16 ≤ length input → length (block_in input i) ≡ 16
-block_length input i h = simp (length-take, length-drop) (omega arith)
+-- sixteen bytes
+pub record Sixteen (xs : List ℕ) : Type 0 where
+  pub long : length xs ≡ 16
+  pub bytes : Bytes xs
 
 -- ---- questions answered yes
 
@@ -125,34 +114,34 @@ full_at (suc n) ys (suc l) h = full_at n ys l (omega arith)
 
 -- ---- the book of filled lanes
 
-abbrev book_to : List ℕ → ℕ → Book
-book_to input zero = blank
-book_to input (suc n) = wrote (wrote (book_to input n) (place_key n (key_in input))) (place_block n (block_in input n))
+abbrev book_to : List ℕ → (ℕ → List ℕ) → ℕ → Book
+book_to key block zero = blank
+book_to key block (suc n) = wrote (wrote (book_to key block n) (place_key n key)) (place_block n (block n))
 
-abbrev page : List ℕ → ℕ → Page
-page input l = record { key = Some (key_in input); block = Some (block_in input l) }
+abbrev page : List ℕ → (ℕ → List ℕ) → ℕ → Page
+page key block l = record { key = Some key; block = Some (block l) }
 
-book_at : (input : List ℕ) (n l : ℕ) → l < n → book_to input n l ≡ page input l
-book_at input zero l h = absurd (omega arith)
-book_at input (suc n) l h =
-    let b : Book = book_to input n in
-    let P : Bool → Page = λ t. cond t (record { key = (cond t (record { key = Some (key_in input); block = (b l).block }) (b l)).key; block = Some (block_in input n) }) (cond t (record { key = Some (key_in input); block = (b l).block }) (b l)) in
+book_at : (key : List ℕ) (block : ℕ → List ℕ) (n l : ℕ) → l < n → book_to key block n l ≡ page key block l
+book_at key block zero l h = absurd (omega arith)
+book_at key block (suc n) l h =
+    let b : Book = book_to key block n in
+    let P : Bool → Page = λ t. cond t (record { key = (cond t (record { key = Some key; block = (b l).block }) (b l)).key; block = Some (block n) }) (cond t (record { key = Some key; block = (b l).block }) (b l)) in
     ⊎_elim
-    (λ e. ap P (eq-eqb l n e) ∙ ap (λ (i : ℕ). page input i) (sym e))
-    (λ ne. ap P (ne_eqb l n ne) ∙ book_at input n l (omega arith))
+    (λ e. ap P (eq-eqb l n e) ∙ ap (λ (i : ℕ). page key block i) (sym e))
+    (λ ne. ap P (ne_eqb l n ne) ∙ book_at key block n l (omega arith))
     (cases_eq l n)
 
 -- ---- filled lanes
 
-pub record Filled (v₀ v : View) (input : List ℕ) (n : ℕ) : Type 0 where
+pub record Filled (v₀ v : View) (key : List ℕ) (block : ℕ → List ℕ) (n : ℕ) : Type 0 where
   pub registers : v.model.registers ≡ v₀.model.registers
   pub lanes : v.model.lanes ≡ v₀.model.lanes
   pub left : v.model.left ≡ v₀.model.left
   pub records : (m : ℕ) → n + m ≡ 128 → v.records ≡ lanes_full n m
-  pub holds : Holds v (book_to input n)
+  pub holds : Holds v (book_to key block n)
 
-fill_none : (m : Model) (x : Memory) (input : List ℕ) → Filled (made m x) (made m x) input 0
-fill_none m x input = record {
+fill_none : (m : Model) (x : Memory) (key : List ℕ) (block : ℕ → List ℕ) → Filled (made m x) (made m x) key block 0
+fill_none m x key block = record {
   registers = refl;
   lanes = refl;
   left = refl;
@@ -160,47 +149,47 @@ fill_none m x input = record {
   holds = made_holds m x;
 }
 
-fill_more : (v₀ v : View) (input : List ℕ) (n : ℕ) → Sized (shape v₀) → n < v₀.model.lanes → 16 * (n + 1) + 16 ≤ length input → Bytes input → Filled v₀ v input n
-    → Filled v₀ (next (next v (place_key n (key_in input))) (place_block n (block_in input n))) input (suc n)
+fill_more : (v₀ v : View) (key : List ℕ) (block : ℕ → List ℕ) (n : ℕ) → Sized (shape v₀) → n < v₀.model.lanes → Sixteen key → Sixteen (block n) → Filled v₀ v key block n
+    → Filled v₀ (next (next v (place_key n key)) (place_block n (block n))) key block (suc n)
 unfolding laid
-fill_more v₀ v input n z lt long small h =
-    let a : Asked = place_key n (key_in input) in
-    let b : Asked = place_block n (block_in input n) in
+fill_more v₀ v key block n z lt k b₁ h =
+    let a : Asked = place_key n key in
+    let b : Asked = place_block n (block n) in
     let r = h.registers in
     let l = h.lanes in
     let size : Sized (shape v) = record { room = omega (arith, z.room); some = omega (arith, z.some); few = omega (arith, z.few) } in
     let in_lane : n < v.model.lanes = omega arith in
-    let e₁ : refusal (shape v) a ≡ None = placing_none (shape v) n (length (key_in input)) size in_lane (key_length input (omega arith)) in
+    let e₁ : refusal (shape v) a ≡ None = placing_none (shape v) n (length key) size in_lane k.long in
     let v₁ : View = done v a in
-    let e₂ : refusal (shape v₁) b ≡ None = placing_none (shape v₁) n (length (block_in input n)) (record { room = size.room; some = size.some; few = size.few }) in_lane (block_length input n long) in
+    let e₂ : refusal (shape v₁) b ≡ None = placing_none (shape v₁) n (length (block n)) (record { room = size.room; some = size.some; few = size.few }) in_lane b₁.long in
     let is : next (next v a) b ≡ done v₁ b = ap (λ (x : View). next x b) (next_done v a e₁) ∙ next_done v₁ b e₂ in
-    let P : View → Type 0 = λ x. Filled v₀ x input (suc n) in
+    let P : View → Type 0 = λ x. Filled v₀ x key block (suc n) in
     subst P (sym is) (record {
       registers = r;
       lanes = l;
       left = h.left;
       records = λ m e. let k : n + suc m ≡ 128 = omega arith in ap (λ rs. blocked (keyed rs n) n) (h.records (suc m) k) ∙ lane_filled n m;
-      holds = done_holds v₁ (wrote (book_to input n) a) b (take_bytes 16 _ (drop_bytes (16 * (n + 1)) input small)) e₂ (done_holds v (book_to input n) a (take_bytes 16 input small) e₁ h.holds);
+      holds = done_holds v₁ (wrote (book_to key block n) a) b b₁.bytes e₂ (done_holds v (book_to key block n) a k.bytes e₁ h.holds);
     })
 
-pub fill_all : (m : Model) (x : Memory) (input : List ℕ) (n : ℕ) → Sized (shape (made m x)) → n ≤ m.lanes → 16 * (n + 1) ≤ length input → Bytes input → Filled (made m x) (filled (made m x) input n) input n
-fill_all m x input zero z le long small = fill_none m x input
-fill_all m x input (suc n) z le long small =
-    fill_more (made m x) (filled (made m x) input n) input n z (omega arith) (omega arith) small (fill_all m x input n z (omega arith) (omega arith) small)
+pub fill_all : (m : Model) (x : Memory) (key : List ℕ) (block : ℕ → List ℕ) (n : ℕ) → Sized (shape (made m x)) → n ≤ m.lanes → Sixteen key → ((i : ℕ) → i < n → Sixteen (block i)) → Filled (made m x) (filled (made m x) key block n) key block n
+fill_all m x key block zero z le k bs = fill_none m x key block
+fill_all m x key block (suc n) z le k bs =
+    fill_more (made m x) (filled (made m x) key block n) key block n z (omega arith) k (bs n (omega arith)) (fill_all m x key block n z (omega arith) k (λ i h. bs i (omega arith)))
 
 -- ---- filled lanes, scheduled and sealed
 
 -- lane l gives its block, encrypted
-pub record Gives (v : View) (input : List ℕ) (l : ℕ) : Type 0 where
+pub record Gives (v : View) (key : List ℕ) (block : ℕ → List ℕ) (l : ℕ) : Type 0 where
   pub accepted : reading (shape v) l 16 ≡ None
-  pub state : state_of v.model l ≡ encrypted kind (key_in input) (block_in input l)
+  pub state : state_of v.model l ≡ encrypted kind key (block l)
 
 block_of : (t : Bool) (st block : List ℕ) (p : Option (List ℕ)) → t ≡ true → p ≡ Some block → HoldsBlock t st p → st ≡ block
 block_of true st block p e q h = cc
 block_of false st block p e q h = let z : ◌≡◌ {A = Bool} true false = cc in cc
 
-pub sealed_gives : (v₀ v : View) (input : List ℕ) (n : ℕ) → Sized (shape v₀) → 1 ≤ n → n ≤ v₀.model.lanes → 30000 ≤ v₀.model.left → Filled v₀ v input n → (l : ℕ) → l < n → Gives (turned v) input l
-sealed_gives v₀ v input n z some le gates h l lt =
+pub sealed_gives : (v₀ v : View) (key : List ℕ) (block : ℕ → List ℕ) (n : ℕ) → Sized (shape v₀) → 1 ≤ n → n ≤ v₀.model.lanes → 30000 ≤ v₀.model.left → Filled v₀ v key block n → (l : ℕ) → l < n → Gives (turned v) key block l
+sealed_gives v₀ v key block n z some le gates h l lt =
     let m : ℕ = 128 - n in
     let few = z.few in
     let rs : v.records ≡ lanes_full n m = h.records m (omega arith) in
@@ -223,19 +212,19 @@ sealed_gives v₀ v input n z some le gates h l lt =
     let size₂ : Sized (shape v₂) = record { room = omega (arith, r₂, size₁.room); some = omega (arith, l₂, size₁.some); few = omega (arith, l₂, size₁.few) } in
     let in_lane : l < v₂.model.lanes = omega (arith, l₂, l₁) in
     let has : (get_or v₂.records l empty).block ≡ true = ap (λ (x : List LaneRecord). (get_or x l empty).block) rs₁ ∙ full_at n (replicate m empty) l lt in
-    let b : Book = book_to input n in
+    let b : Book = book_to key block n in
     let held = done_holds v₁ (wrote b schedule) seal tt e₂ (done_holds v b schedule tt e₁ h.holds) in
     let is : turned v ≡ v₂ = ap (λ (x : View). next x seal) (next_done v schedule e₁) ∙ next_done v₁ seal e₂ in
-    let P : View → Type 0 = λ x. Gives x input l in
+    let P : View → Type 0 = λ x. Gives x key block l in
     subst P (sym is) (record {
       accepted = reading_none (shape v₂) l size₂ in_lane has;
-      state = block_of (get_or v₂.records l empty).block (state_of v₂.model l) _ _ has (ap (λ (p : Page). (turned_page (encrypted kind) p).block) (book_at input n l lt)) (held.lane l in_lane).1;
+      state = block_of (get_or v₂.records l empty).block (state_of v₂.model l) _ _ has (ap (λ (p : Page). (turned_page (encrypted kind) p).block) (book_at key block n l lt)) (held.lane l in_lane).1;
     })
 
 -- a unit made on a bench of 64 lanes with room and gates enough
-pub lane_gives : (m : Model) (x : Memory) (u : View) (input : List ℕ) (n : ℕ) → 2048 ≤ m.registers → m.lanes ≡ 64 → 30000 ≤ m.left → 1 ≤ n → n ≤ 64 → 16 * (n + 1) ≤ length input → Bytes input
-    → u ≡ turned (filled (made m x) input n) → (l : ℕ) → l < n → Gives u input l
-lane_gives m x u input n room lanes gates some few long small is l lt =
+pub lane_gives : (m : Model) (x : Memory) (u : View) (key : List ℕ) (block : ℕ → List ℕ) (n : ℕ) → 2048 ≤ m.registers → m.lanes ≡ 64 → 30000 ≤ m.left → 1 ≤ n → n ≤ 64 → Sixteen key → ((i : ℕ) → i < n → Sixteen (block i))
+    → u ≡ turned (filled (made m x) key block n) → (l : ℕ) → l < n → Gives u key block l
+lane_gives m x u key block n room lanes gates some few k bs is l lt =
     let size : Sized (shape (made m x)) = record { room = room; some = omega (arith, lanes); few = omega (arith, lanes) } in
-    let P : View → Type 0 = λ v. Gives v input l in
-    subst P (sym is) (sealed_gives (made m x) (filled (made m x) input n) input n size some (omega (arith, lanes)) gates (fill_all m x input n size (omega (arith, lanes)) long small) l lt)
+    let P : View → Type 0 = λ v. Gives v key block l in
+    subst P (sym is) (sealed_gives (made m x) (filled (made m x) key block n) key block n size some (omega (arith, lanes)) gates (fill_all m x key block n size (omega (arith, lanes)) k bs) l lt)

@@ -1,9 +1,10 @@
 // The text of an input: its blocks sealed under its key, or a refusal.
-ghost use Rattle.std.specs.Prelude.{◌≡◌, ◌+◌, ◌*◌, ◌≤◌, ◌++◌, length, drop, IfOk, if◌then◌else◌, Ok, Err, nat_eq};
+ghost use Rattle.std.specs.Prelude.{◌≡◌, ℕ, ◌*◌, ◌<◌, ◌≤◌, [], ◌++◌, length, drop, IfOk, if◌then◌else◌, Ok, Err, nat_eq, slice_index, slice_index_or};
+ghost use Rattle.standard.specs.Kinds.{aes128, encrypted};
 ghost use Rattle.bench.specs.declared.faults.Question.TheVariants.{Sixteen};
 ghost use Rattle.bench.specs.declared.faults.Part.TheVariants.{Unit as UnitPart};
 ghost use Rattle.bench.specs.Faults.{fault};
-ghost use Rattle.sealing.specs.Sealed.{sealed_lines, sealed_text};
+ghost use Rattle.sealing.specs.Sealed.{lines_to, sealed_text};
 
 use crate::digits::LINE;
 use crate::lanes::{seal_all, write_all};
@@ -20,16 +21,17 @@ const MOST_BLOCKS: usize = 64;
 
 const REFUSED: [u8; 10] = *b"refused 6\n";
 
-// Writes the lines of `count` blocks, sealed on a bench of zeros.
-fn seal_lines(input: &[u8], count: usize, out: &mut [u8])
-    requires { (16 * (count + 1) ≤ length input.now) × ((1 ≤ count) × ((count ≤ 64) × (33 * count ≤ length out.old))) }
-    ensures text { out.new ≡ sealed_lines input.now count ++ drop (33 * count) out.old }
-    ensures size { length (sealed_lines input.now count) ≡ 33 * count }
+// Writes the lines of the blocks, sealed under the key on a bench of zeros.
+fn seal_lines(key: &[u8; 16], blocks: &[[u8; 16]], out: &mut [u8])
+    requires fits { (1 ≤ length blocks.now) × (length blocks.now ≤ 64) × (33 * length blocks.now ≤ length out.old) }
+    requires bytes { (i j : ℕ) → slice_index (slice_index_or blocks.now i []) j < 256 }
+    ensures text { out.new ≡ lines_to (λ i. encrypted aes128 key.now (slice_index_or blocks.now i [])) (length blocks.now) ++ drop (33 * length blocks.now) out.old }
+    ensures size { length (lines_to (λ i. encrypted aes128 key.now (slice_index_or blocks.now i [])) (length blocks.now)) ≡ 33 * length blocks.now }
 {
     let mut words = [0u64; 2_048];
     let mut unit = CipherUnit::new(WordBench::new(&mut words, MOST_GATES));
-    seal_all(&mut unit, input, count);
-    write_all(&unit, count, out);
+    seal_all(&mut unit, key, blocks);
+    write_all(&unit, blocks.len(), out);
 }
 
 // Writes the text of the input: a line for each of its blocks, sealed under its first sixteen bytes, or the refusal.
@@ -45,12 +47,14 @@ pub fn seal_text(input: &[u8], out: &mut [u8]) -> Result<usize, Fault>
             place: out.len() as u64,
         });
     }
-    let length = input.len();
-    if length % BLOCK != 0 || length < 2 * BLOCK || length > BLOCK * (MOST_BLOCKS + 1) {
-        out[0..10].copy_from_slice(&REFUSED);
-        return Ok(10);
+    match input.as_chunks::<BLOCK>() {
+        ([key, blocks @ ..], []) if !blocks.is_empty() && blocks.len() <= MOST_BLOCKS => {
+            seal_lines(key, blocks, out);
+            Ok(LINE * blocks.len())
+        }
+        _ => {
+            out[..REFUSED.len()].copy_from_slice(&REFUSED);
+            Ok(REFUSED.len())
+        }
     }
-    let count = length / BLOCK - 1;
-    seal_lines(input, count, out);
-    Ok(LINE * count)
 }

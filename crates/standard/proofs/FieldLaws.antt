@@ -1,6 +1,7 @@
 -- The field's product is linear, its inverse inverts, and the substitution is undone by its inverse. Assumes nothing.
-use Rattle.std.proofs.Common.{◌≡◌, ℕ, zero, suc, ◌+◌, ◌*◌, ◌/◌, ◌%◌, ◌<◌, Bool, true, false, cond, ◌||◌, T, eqb, leb, sym, refl, ap, ◌∙◌, ap₂, arith, eqb→eq}
+use Rattle.std.proofs.Common.{◌≡◌, ℕ, zero, suc, ◌*◌, ◌/◌, ◌%◌, ◌<◌, Bool, true, false, cond, ◌||◌, T, eqb, leb, sym, refl, ap, ◌∙◌, ap₂, arith, eqb→eq}
 use lib.Bits.{bit_xor, xor_shr, xor_lt, xor_assoc}
+use Rattle.std.specs.Int.{w8, rotate_left}
 use Rattle.standard.specs.Bits.{odd}
 use Rattle.standard.specs.Field.{xtime, mul_by, mul, inverse, rotl, affine, inv_affine, SBox, InvSBox}
 use Rattle.standard.proofs.BitLaws.{odd_xor, xor_swap, chosen_xor}
@@ -102,7 +103,7 @@ pub SBox_InvSBox : (v : ℕ) → v < 256 → SBox (InvSBox v) ≡ v
 unfolding SBox InvSBox
 SBox_InvSBox v h = ap affine (inverse_inverse (inv_affine v) (inv_affine_byte v h)) ∙ affine_inv_affine v h
 
--- a byte turned i places and one more
-pub rotl_more : (i v : ℕ) → i < 8 → v < 256 → rotl (rotl v i) 1 ≡ rotl v (i + 1)
+-- a byte turned as the library turns it
+pub rotl_is : (k v : ℕ) → k < 8 → v < 256 → rotate_left w8 v k ≡ rotl v k
 unfolding tests rotl
-rotl_more i v hi hv = eqb→eq (rotl (rotl v i) 1) (rotl v (i + 1)) (tested2 (λ i v. eqb (rotl (rotl v i) 1) (rotl v (i + 1))) 8 256 tt i v hi hv)
+rotl_is k v hk hv = eqb→eq (rotate_left w8 v k) (rotl v k) (tested2 (λ k v. eqb (rotate_left w8 v k) (rotl v k)) 8 256 tt k v hk hv)

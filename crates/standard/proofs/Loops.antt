@@ -28,9 +28,9 @@ module _ (κ : KeyKind) (keys block : List ℕ) where
       ∙ ap (λ (i : ℕ). AddRoundKey (ShiftRows (SubBytes (state_after (i - 1) block w))) (w (rounds κ))) h
 
   -- ---- the inverse cipher
-  pub inv_round_more : (nr n : ℕ) (st : List ℕ) → st ≡ inv_state_after nr n block w → InvMixColumns (AddRoundKey (InvSubBytes (InvShiftRows st)) (w (nr - 1 - n))) ≡ inv_state_after nr (n + 1) block w
-  inv_round_more nr n st e =
-      ap (λ (x : List ℕ). InvMixColumns (AddRoundKey (InvSubBytes (InvShiftRows x)) (w (nr - 1 - n)))) e ∙ sym (ap (λ (i : ℕ). inv_state_after nr i block w) (add-one n))
+  pub inv_round_more : (nr n m i : ℕ) (st : List ℕ) → m ≡ n + 1 → i ≡ nr - 1 - n → st ≡ inv_state_after nr n block w → InvMixColumns (AddRoundKey (InvSubBytes (InvShiftRows st)) (w i)) ≡ inv_state_after nr m block w
+  inv_round_more nr n m i st one_more here e =
+      ap₂ (λ (x : List ℕ) (j : ℕ). InvMixColumns (AddRoundKey (InvSubBytes (InvShiftRows x)) (w j))) e here ∙ sym (ap (λ (j : ℕ). inv_state_after nr j block w) (one_more ∙ add-one n))
 
   pub deciphered_last : (n : ℕ) (st : List ℕ) → n ≡ rounds κ - 1 → st ≡ inv_state_after (rounds κ) n block w → AddRoundKey (InvSubBytes (InvShiftRows st)) (w 0) ≡ deciphered κ keys block
   unfolding deciphered

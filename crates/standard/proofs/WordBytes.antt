@@ -1,6 +1,7 @@
 -- The expansion of a key of four words byte by byte. Assumes nothing.
-use Rattle.std.proofs.Common.{◌≡◌, ℕ, zero, suc, ◌+◌, ◌-◌, ◌*◌, ◌/◌, ◌%◌, ◌<◌, ◌≤◌, Bool, true, false, cond, eqb, List, length, get_or, sym, refl, ap, ◌∙◌, ap₂, arith, eq-eqb}
+use Rattle.std.proofs.Common.{◌≡◌, ℕ, zero, suc, ◌+◌, ◌-◌, ◌*◌, ◌/◌, ◌%◌, ◌<◌, ◌≤◌, Bool, true, false, cond, eqb, List, ◌++◌, length, get_or, sym, refl, ap, ◌∙◌, ap₂, arith, eq-eqb}
 use lib.Bits.{bit_xor, xor_zero_r}
+use Rattle.std.proofs.lemmas.List.{get_or_append_left, length-append}
 use Rattle.std.proofs.lemmas.List.FromFn.{fill_by_all}
 use Rattle.std.proofs.lemmas.Simd.{get_or-zip2, length-zip2}
 use Rattle.standard.specs.Field.{SBox}
@@ -111,6 +112,13 @@ module _ (k : ℕ → ℕ) where
         ∙ sym (get_or-zip2 bit_xor (w n) (temp 4 (n + 4) v) j 0 0 0 (omega arith) (omega arith))
         ∙ sym (ap (λ (x : Word). get_or x j 0) (next n))
         ∙ sym (ap (λ (x : ℕ). get_or (w x) j 0) i)
+
+-- the bytes of the key, and places for the rest
+pub key_first : (key rest xs : List ℕ) → length key ≡ 16 → length rest ≡ 160 → xs ≡ key → (length (xs ++ rest) ≡ 176) × ((p : ℕ) → p < 16 → get_or (xs ++ rest) p 0 ≡ byte_of (byte_at key) p)
+key_first key rest xs k r e = (
+  length-append xs rest ∙ omega (arith, ap length e),
+  λ p h. get_or_append_left xs rest 0 p (omega (arith, ap length e)) ∙ ap (λ (bytes : List ℕ). get_or bytes p 0) e ∙ byte_first (byte_at key) p h,
+)
 
 -- ---- the round keys that the bytes hold
 pub round_keys_in : (key keys : List ℕ) → ((p : ℕ) → p < 176 → get_or keys p 0 ≡ byte_of (byte_at key) p) → (n : ℕ) → n < 11 → key_in keys n ≡ round_key aes128 key n

@@ -69,6 +69,10 @@ unfolding Rcon
 Rcon_more zero h = absurd (omega arith)
 Rcon_more (suc i) h = ap Rcon (add-one (suc i))
 
+-- after the powers ys the next one
+pub Rcon_next : (ys : List ℕ) (a x b : ℕ) → a ≡ Rcon (length ys + 1) → b ≡ xtime a → b ≡ Rcon (length (ys ++ (x ∷ [])) + 1)
+Rcon_next ys a x b e f = f ∙ ap xtime e ∙ sym (Rcon_more (length ys + 1) (omega arith)) ∙ ap (λ (n : ℕ). Rcon (n + 1)) (sym (length-append ys (x ∷ [])))
+
 -- ---- bytes
 pub Rcon_byte : (n : ℕ) → Rcon n < 256
 unfolding Rcon

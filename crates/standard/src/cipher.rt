@@ -8,16 +8,13 @@ use crate::steps::{
     add_round_key, inv_mix_columns, inv_shift_rows, inv_sub_bytes, mix_columns, shift_rows,
     sub_bytes,
 };
+use std::array;
 
 fn key_in(keys: &[u8; 176], n: usize) -> [u8; 16]
     requires { n < 11 }
     ensures { result ≡ key_in keys.now n }
 {
-    let mut out = [0; 16];
-    for i in 0..16usize {
-        out[i] = keys[16 * n + i];
-    }
-    out
+    array::from_fn(|i| keys[16 * n + i])
 }
 
 fn round(state: &[u8; 16], keys: &[u8; 176], n: usize) -> [u8; 16]
@@ -34,7 +31,7 @@ pub fn cipher(block: &[u8; 16], keys: &[u8; 176]) -> [u8; 16]
     ensures undone { deciphered aes128 keys.now result ≡ block.now }
 {
     let mut state = add_round_key(block, &key_in(keys, 0));
-    for n in 1..10usize {
+    for n in 1..10 {
         state = round(&state, keys, n);
     }
     let shifted = shift_rows(&sub_bytes(&state));
@@ -56,8 +53,8 @@ pub fn inv_cipher(block: &[u8; 16], keys: &[u8; 176]) -> [u8; 16]
     ensures undone { ciphered aes128 keys.now result ≡ block.now }
 {
     let mut state = add_round_key(block, &key_in(keys, 10));
-    for n in 0..9usize {
-        state = inv_round(&state, keys, 9 - n);
+    for n in (1..10).rev() {
+        state = inv_round(&state, keys, n);
     }
     let subbed = inv_sub_bytes(&inv_shift_rows(&state));
     add_round_key(&subbed, &key_in(keys, 0))

@@ -1,5 +1,5 @@
 // The key expansion of FIPS 197 for a key of sixteen bytes, byte by byte.
-ghost use Rattle.std.specs.Prelude.{◌≡◌, ℕ, ◌-◌, ◌/◌, ◌%◌, ◌<◌, ◌≤◌, bit_xor, slice_index};
+ghost use Rattle.std.specs.Prelude.{◌≡◌, ℕ, ◌-◌, ◌/◌, ◌%◌, ◌<◌, ◌≤◌, slice_index};
 ghost use Rattle.standard.specs.KeyExpansion.{Rcon, temp, key_word};
 ghost use Rattle.standard.specs.Kinds.{aes128, byte_at, key_in, round_key};
 
@@ -12,11 +12,7 @@ pub fn rcon(n: u8) -> u8
     if n == 0 {
         return 0;
     }
-    let mut power = 1;
-    for _i in 1..n {
-        power = xtime(power);
-    }
-    power
+    (1..n).fold(1, |power, _| xtime(power))
 }
 
 // Byte j of the standard's temp for word i, from the words before.
@@ -35,25 +31,15 @@ fn temp_byte(words: &[u8; 176], i: usize, j: usize) -> u8
     turned
 }
 
-// Byte p of the expansion, from the key and the bytes before.
-fn next_byte(key: &[u8; 16], words: &[u8; 176], p: usize) -> u8
-    requires { p < 176 }
-    ensures first { p < 16 → result ≡ byte_at key.now p }
-    ensures later { 16 ≤ p → result ≡ bit_xor (byte_at words.now (p - 16)) (slice_index (temp 4 (p / 4) (key_word (byte_at words.now) (p / 4 - 1))) (p % 4)) }
-{
-    if p < 16 {
-        return key[p];
-    }
-    words[p - 16] ^ temp_byte(words, p / 4, p % 4)
-}
-
 // The eleven round keys, one after another.
 pub fn key_expansion(key: &[u8; 16]) -> [u8; 176]
     ensures { (n : ℕ) → n < 11 → key_in result n ≡ round_key aes128 key.now n }
 {
     let mut words = [0; 176];
-    for p in 0..176usize {
-        words[p] = next_byte(key, &words, p);
+    words[..16].copy_from_slice(key);
+    // By index, since each byte is made of bytes before it.
+    for p in 16..176 {
+        words[p] = words[p - 16] ^ temp_byte(&words, p / 4, p % 4);
     }
     words
 }

@@ -1,7 +1,7 @@
 // The field of FIPS 197 and the substitution of a byte, as the standard's definitions compute them.
 ghost use Rattle.std.specs.Prelude.{◌≡◌, ◌<◌, ◌≢◌};
 ghost use Rattle.standard.specs.Laws.{ProductLaws};
-ghost use Rattle.standard.specs.Field.{xtime, mul, inverse, rotl, affine, inv_affine, SBox, InvSBox};
+ghost use Rattle.standard.specs.Field.{xtime, mul, inverse, affine, inv_affine, SBox, InvSBox};
 
 // A byte times 02.
 pub fn xtime(a: u8) -> u8
@@ -17,6 +17,7 @@ pub fn mul(a: u8, b: u8) -> u8
     let mut product = 0;
     let mut power = a;
     let mut rest = b;
+    // A loop, since a fold over the three values would be no plainer.
     for _i in 0..8u8 {
         if rest % 2 == 1 {
             product ^= power;
@@ -48,29 +49,17 @@ pub fn inverse(a: u8) -> u8
     mul(a2, mul(a4, mul(a8, mul(a16, mul(a32, mul(a64, a128))))))
 }
 
-// A byte turned some places to the left.
-fn turned(b: u8, places: u8) -> u8
-    requires { places < 8 }
-    ensures { result ≡ rotl b places }
-{
-    let mut t = b;
-    for _i in 0..places {
-        t = t % 128 * 2 + t / 128;
-    }
-    t
-}
-
 // The affine rule of SubBytes.
 pub fn affine(b: u8) -> u8
     ensures { result ≡ affine b }
 {
-    b ^ (turned(b, 1) ^ (turned(b, 2) ^ (turned(b, 3) ^ (turned(b, 4) ^ 0x63))))
+    b ^ b.rotate_left(1) ^ b.rotate_left(2) ^ b.rotate_left(3) ^ b.rotate_left(4) ^ 0x63
 }
 
 pub fn inv_affine(b: u8) -> u8
     ensures { result ≡ inv_affine b }
 {
-    turned(b, 1) ^ (turned(b, 3) ^ (turned(b, 6) ^ 0x05))
+    b.rotate_left(1) ^ b.rotate_left(3) ^ b.rotate_left(6) ^ 0x05
 }
 
 // The substitution of a byte, and that the other undoes it.

@@ -5,25 +5,18 @@ ghost use Rattle.standard.specs.Cipher.{SubBytes, ShiftRows, MixColumns, AddRoun
 ghost use Rattle.standard.specs.Columns.{entry, row_of, by_columns};
 
 use crate::field::{inv_sbox, mul, sbox};
+use std::array;
 
 pub fn sub_bytes(state: &[u8; 16]) -> [u8; 16]
     ensures { result ≡ SubBytes state.now }
 {
-    let mut out = [0; 16];
-    for i in 0..16usize {
-        out[i] = sbox(state[i]);
-    }
-    out
+    state.map(sbox)
 }
 
 pub fn inv_sub_bytes(state: &[u8; 16]) -> [u8; 16]
     ensures { result ≡ InvSubBytes state.now }
 {
-    let mut out = [0; 16];
-    for i in 0..16usize {
-        out[i] = inv_sbox(state[i]);
-    }
-    out
+    state.map(inv_sbox)
 }
 
 // Place i takes the byte at stride·i mod 16.
@@ -31,11 +24,7 @@ fn strided(state: &[u8; 16], stride: usize) -> [u8; 16]
     requires { stride < 16 }
     ensures { result ≡ map (λ j. slice_index state.now ((stride * j) % 16)) (range_with_len 0 16) }
 {
-    let mut out = [0; 16];
-    for i in 0..16usize {
-        out[i] = state[stride * i % 16];
-    }
-    out
+    array::from_fn(|i| state[stride * i % 16])
 }
 
 pub fn shift_rows(state: &[u8; 16]) -> [u8; 16]
@@ -79,11 +68,7 @@ fn column_byte(first: &[u8; 4], state: &[u8; 16], i: usize) -> u8
 fn by_columns(first: &[u8; 4], state: &[u8; 16]) -> [u8; 16]
     ensures { result ≡ by_columns first.now state.now }
 {
-    let mut out = [0; 16];
-    for i in 0..16usize {
-        out[i] = column_byte(first, state, i);
-    }
-    out
+    array::from_fn(|i| column_byte(first, state, i))
 }
 
 pub fn mix_columns(state: &[u8; 16]) -> [u8; 16]
@@ -101,9 +86,5 @@ pub fn inv_mix_columns(state: &[u8; 16]) -> [u8; 16]
 pub fn add_round_key(state: &[u8; 16], key: &[u8; 16]) -> [u8; 16]
     ensures { result ≡ AddRoundKey state.now key.now }
 {
-    let mut out = [0; 16];
-    for i in 0..16usize {
-        out[i] = state[i] ^ key[i];
-    }
-    out
+    array::from_fn(|i| state[i] ^ key[i])
 }

@@ -1,5 +1,6 @@
 pub mod Decimals
 pub mod Numbers
 pub mod Pairs
-pub mod Lines
+pub mod LineLemmas
 pub mod Words
+pub mod Scans

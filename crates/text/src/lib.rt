@@ -1,5 +1,6 @@
 // The text of scripts, on bytes: lines, words, numbers and bytes in hexadecimal digits.
 #![tactic(auto)]
 
+pub mod lines;
 pub mod reads;
 pub mod writes;

@@ -1,7 +1,7 @@
 // Reading: lines, words, numbers and bytes.
-ghost use Rattle.std.specs.Prelude.{◌≡◌, ◌+◌, ◌-◌, ◌*◌, ◌^◌, ◌<◌, ◌≤◌, not, length, IfOk, if◌then◌else◌, Some, None, vec_items, nat_eq, nat_lt};
+ghost use Rattle.std.specs.Prelude.{◌≡◌, ◌+◌, ◌-◌, ◌*◌, ◌^◌, ◌<◌, ◌≤◌, not, length, IfOk, if◌then◌else◌, Some, None, vec_items, ◌==◌, nat_eq, nat_lt};
 ghost use Rattle.std.specs.Option.{option_map};
-ghost use Rattle.std.specs.List.{prefix_len};
+ghost use Rattle.std.specs.List.{prefix_len, position};
 ghost use Rattle.std.specs.Str.{bytes_eq};
 ghost use Rattle.text.specs.Text.{before, line_of, after_line, word_of, after_word, is_digit, number_in, hex_value, pair_value, pairs_in, bytes_in};
 
@@ -11,17 +11,26 @@ const LINE_END: u8 = b'\n';
 
 const SPACE: u8 = b' ';
 
+// Where the first `stop` stands, if there is one.
+fn find(bytes: &[u8], stop: u8) -> Option<usize>
+    ensures { result ≡ position (λ b. b == stop) bytes.now }
+{
+    bytes.iter().position(|byte| *byte == stop)
+}
+
+// Where the first byte other than `passed` stands, if there is one.
+fn find_other(bytes: &[u8], passed: u8) -> Option<usize>
+    ensures { result ≡ position (λ b. not (b == passed)) bytes.now }
+{
+    bytes.iter().position(|byte| *byte != passed)
+}
+
 // How many bytes stand before the first `stop`.
 fn count_before(bytes: &[u8], stop: u8) -> usize
     ensures value { result ≡ before stop bytes.now }
     ensures within { result ≤ length bytes.now }
 {
-    for (i, byte) in bytes.iter().enumerate() {
-        if *byte == stop {
-            return i;
-        }
-    }
-    bytes.len()
+    find(bytes, stop).unwrap_or(bytes.len())
 }
 
 // How many spaces stand in front.
@@ -29,12 +38,7 @@ fn count_spaces(bytes: &[u8]) -> usize
     ensures value { result ≡ prefix_len (λ b. nat_eq b 32) bytes.now }
     ensures within { result ≤ length bytes.now }
 {
-    for (i, byte) in bytes.iter().enumerate() {
-        if *byte != SPACE {
-            return i;
-        }
-    }
-    bytes.len()
+    find_other(bytes, SPACE).unwrap_or(bytes.len())
 }
 
 // The first line, and what follows it.
@@ -42,11 +46,9 @@ pub fn split_line(text: &[u8]) -> (&[u8], &[u8])
     ensures line { result.0.now ≡ line_of text.now }
     ensures rest { result.1.now ≡ after_line text.now }
 {
-    let end = count_before(text, LINE_END);
-    if end == text.len() {
-        (text, &[])
-    } else {
-        (&text[0..end], &text[end + 1..])
+    match find(text, LINE_END) {
+        Some(end) => (&text[..end], &text[end + 1..]),
+        None => (text, &[]),
     }
 }
 
@@ -72,7 +74,7 @@ fn with_digit(value: u64, digit: u8) -> Option<u64>
 {
     value
         .checked_mul(10)?
-        .checked_add(digit.saturating_sub(b'0') as u64)
+        .checked_add(u64::from(digit.saturating_sub(b'0')))
 }
 
 // The number that decimal digits write, if it has 64 bits or fewer.
@@ -83,11 +85,11 @@ pub fn number(word: &[u8]) -> Option<u64>
         return None;
     }
     let mut value = 0;
-    for byte in word {
-        if *byte < b'0' || *byte > b'9' {
+    for digit in word {
+        if !digit.is_ascii_digit() {
             return None;
         }
-        value = with_digit(value, *byte)?;
+        value = with_digit(value, *digit)?;
     }
     Some(value)
 }
@@ -115,12 +117,13 @@ fn hex_byte(high: u8, low: u8) -> Option<u8>
 fn hex_pairs(heap: Global, word: &[u8]) -> Result<Option<Vec<u8>>, AllocError>
     ensures { IfOk result (λ o. option_map vec_items o ≡ pairs_in word.now) }
 {
-    let mut bytes = Vec::new(heap);
-    if word.len() % 2 != 0 {
+    let (pairs, rest) = word.as_chunks::<2>();
+    if !rest.is_empty() {
         return Ok(None);
     }
-    for i in 0..word.len() / 2 {
-        let Some(byte) = hex_byte(word[2 * i], word[2 * i + 1]) else {
+    let mut bytes = Vec::new(heap);
+    for [high, low] in pairs {
+        let Some(byte) = hex_byte(*high, *low) else {
             return Ok(None);
         };
         bytes.push(byte)?;
@@ -132,11 +135,9 @@ fn hex_pairs(heap: Global, word: &[u8]) -> Result<Option<Vec<u8>>, AllocError>
 pub fn hex_bytes(heap: Global, word: &[u8]) -> Result<Option<Vec<u8>>, AllocError>
     ensures { IfOk result (λ o. option_map vec_items o ≡ bytes_in word.now) }
 {
-    if word.is_empty() {
-        return Ok(None);
+    match word {
+        [] => Ok(None),
+        [b'-'] => Ok(Some(Vec::new(heap))),
+        _ => hex_pairs(heap, word),
     }
-    if word.len() == 1 && word[0] == b'-' {
-        return Ok(Some(Vec::new(heap)));
-    }
-    hex_pairs(heap, word)
 }

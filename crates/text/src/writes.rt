@@ -1,5 +1,5 @@
 // Writing: each function appends to what `out` holds.
-ghost use Rattle.std.specs.Prelude.{◌≡◌, ◌<◌, ◌++◌, Some, OnOk};
+ghost use Rattle.std.specs.Prelude.{◌≡◌, ◌/◌, ◌%◌, ◌<◌, [], ◌∷◌, ◌++◌, Some, OnOk};
 ghost use Rattle.text.specs.Text.{number_in, decimal, hex_digit, hex_text};
 
 use std::alloc::AllocError;
@@ -34,6 +34,13 @@ fn hex_digit(digit: u8) -> u8
     }
 }
 
+// The two hexadecimal digits of a byte.
+pub fn hex_digits(byte: u8) -> [u8; 2]
+    ensures { result ≡ hex_digit (byte / 16) ∷ hex_digit (byte % 16) ∷ [] }
+{
+    [hex_digit(byte / 16), hex_digit(byte % 16)]
+}
+
 // Appends two hexadecimal digits for each byte, or `-` where there is none.
 pub fn push_hex(out: &mut Vec<u8>, bytes: &[u8]) -> Result<(), AllocError>
     ensures { OnOk result (out.new.items ≡ out.old.items ++ hex_text bytes.now) }
@@ -42,8 +49,7 @@ pub fn push_hex(out: &mut Vec<u8>, bytes: &[u8]) -> Result<(), AllocError>
         return push_text(out, b"-");
     }
     for byte in bytes {
-        out.push(hex_digit(*byte / 16))?;
-        out.push(hex_digit(*byte % 16))?;
+        out.extend_from_slice(&hex_digits(*byte))?;
     }
     Ok(())
 }

@@ -12,21 +12,20 @@ ghost use Rattle.unit.specs.Held.{meaning, view, shape_of};
 ghost use Rattle.unit.specs.Lanes.{state_of, Expanded, Enciphered, Deciphered, Staged, EveryLane};
 ghost use Rattle.unit.specs.Answers.{unit_fault, ask, fits, enough, naming, placing, reading, scheduling, working, given, settled};
 
+use bench::asks::ask_gates;
 use bench::benches::Bench;
 use bench::faults::{Fault, Part, Question};
-use cipher::calls::{open_all, schedule_all, seal_all};
+use cipher::calls::{run, sized};
 use lane::{clear_lane, place_bytes, read_bytes};
 use lanetable::records::{KeyState, LaneRecord};
 use lanetable::table::LaneTable;
-use plans::tables::{open_gates, schedule_gates, seal_gates};
+use plans::tables::Plan;
 
 const STATE: u16 = 0;
 
 const KEY: u16 = 128;
 
 const SCRATCH: u16 = 1_536;
-
-const ROOM: u16 = 2_048;
 
 #[derive(Drop)]
 pub struct CipherUnit<B> {
@@ -52,15 +51,6 @@ fn refuse(question: Question, place: usize) -> Fault
     }
 }
 
-fn enough_gates(cost: u32, left: u32) -> Result<(), Fault>
-    ensures { result ≡ given tt (enough cost left) }
-{
-    if left < cost {
-        return Err(Fault::gates(Part::Unit, cost - left));
-    }
-    Ok(())
-}
-
 impl<B: Bench> CipherUnit<B> {
     // A unit with all records empty, whatever the bench's registers show.
     pub fn new(bench: B) -> CipherUnit<B>
@@ -84,8 +74,7 @@ impl<B: Bench> CipherUnit<B> {
     fn ready(&self) -> Result<(), Fault>
         ensures { result ≡ given tt (ask (fits (shape_of B.Bench self.now)) (unit_fault Size 0) None) }
     {
-        let lanes = self.bench.lanes();
-        if self.bench.registers() < ROOM || lanes < 1 || lanes > 128 {
+        if !sized(self.bench.registers(), self.bench.lanes()) {
             return Err(refuse(Question::Size, 0));
         }
         Ok(())
@@ -128,7 +117,7 @@ impl<B: Bench> CipherUnit<B> {
         if !self.table.has_placed() {
             return Err(refuse(Question::Work, 0));
         }
-        enough_gates(schedule_gates(), self.left())
+        ask_gates(Part::Unit, Plan::Schedule.gates(), self.left())
     }
 
     fn may_work(&self, cost: u32) -> Result<(), Fault>
@@ -141,7 +130,7 @@ impl<B: Bench> CipherUnit<B> {
         if let Some(lane) = self.unready() {
             return Err(refuse(Question::Scheduled, lane));
         }
-        enough_gates(cost, self.left())
+        ask_gates(Part::Unit, cost, self.left())
     }
 
     // Writes the lane's round key 0; its key is then placed.
@@ -183,13 +172,7 @@ impl<B: Bench> CipherUnit<B> {
     {
         self.may_name(lane)?;
         clear_lane(&mut self.bench, lane as u16, SCRATCH)?;
-        self.table.put(
-            lane,
-            LaneRecord {
-                key: KeyState::Absent,
-                block: false,
-            },
-        );
+        self.table.put(lane, LaneRecord::default());
         Ok(())
     }
 
@@ -200,7 +183,7 @@ impl<B: Bench> CipherUnit<B> {
         ensures expanded { EveryLane (scheduling (shape_of B.Bench self.old)) (view B.Bench self.old).model (Expanded (view B.Bench self.old).model (view B.Bench self.new).model) }
     {
         self.may_schedule()?;
-        schedule_all(&mut self.bench)?;
+        run(&mut self.bench, Plan::Schedule)?;
         self.table.schedule();
         Ok(())
     }
@@ -212,8 +195,8 @@ impl<B: Bench> CipherUnit<B> {
         ensures enciphered { EveryLane (working (shape_of B.Bench self.old) S) (view B.Bench self.old).model (Enciphered (view B.Bench self.old).model (view B.Bench self.new).model) }
         ensures staged { EveryLane (working (shape_of B.Bench self.old) S) (view B.Bench self.old).model (Staged (view B.Bench self.old).model) }
     {
-        self.may_work(seal_gates())?;
-        seal_all(&mut self.bench)
+        self.may_work(Plan::Seal.gates())?;
+        run(&mut self.bench, Plan::Seal)
     }
 
     // Runs the opening's plan in all lanes.
@@ -222,8 +205,8 @@ impl<B: Bench> CipherUnit<B> {
         ensures after { view B.Bench self.new ≡ settled (working (shape_of B.Bench self.old) O) (opened (view B.Bench self.old)) (view B.Bench self.old) }
         ensures deciphered { EveryLane (working (shape_of B.Bench self.old) O) (view B.Bench self.old).model (Deciphered (view B.Bench self.old).model (view B.Bench self.new).model) }
     {
-        self.may_work(open_gates())?;
-        open_all(&mut self.bench)
+        self.may_work(Plan::Open.gates())?;
+        run(&mut self.bench, Plan::Open)
     }
 
     // Reads the lane's state into the buffer, and keeps the block.
@@ -241,9 +224,9 @@ impl<B: Bench> CipherUnit<B> {
         ensures bounds { (result.schedule ≤ 20000) × (result.seal ≤ 40000) × (result.open ≤ 60000) }
     {
         Counts {
-            schedule: schedule_gates(),
-            seal: seal_gates(),
-            open: open_gates(),
+            schedule: Plan::Schedule.gates(),
+            seal: Plan::Seal.gates(),
+            open: Plan::Open.gates(),
         }
     }
 

@@ -1,4 +1,4 @@
-// Answers the script on standard input, on standard output.
+// Answers the script on standard input, on standard output: `console` again, as a program has one stored input.
 #![tactic(auto)]
 
 use consoling::runs::console_script;

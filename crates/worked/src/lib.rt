@@ -3,8 +3,6 @@
 
 ghost use Rattle.worked.specs.Values.{ValuesStand};
 
-pub fn values_stand() -> u8
+pub fn values_stand()
     ensures { ValuesStand }
-{
-    0
-}
+{}

@@ -14,8 +14,10 @@ pub returns : goal.returns
 returns g c =
     let σ : ℕ → Bool = λ r. (g.B.Bench.shows c.args.bench.now).bit r c.args.lane in
     let n = length c.args.buffer.now in
-    let few : c.args.base + 8 * n ≤ g.B.Bench.registers c.args.bench.now = omega arith in
-    let within : c.args.lane < g.B.Bench.lanes c.args.bench.now = omega arith in
+    let has = c.in_ok-ask_span.ensures.has in
+    let most : g.B.Bench.registers c.args.bench.now ≤ 65535 = (g.B.Bench.lawful c.args.bench.now).few in
+    let few : c.args.base + 8 * n ≤ g.B.Bench.registers c.args.bench.now = omega (arith, has.0) in
+    let within : c.args.lane < g.B.Bench.lanes c.args.bench.now = has.1 in
     let fits = le-leb (c.args.base + 8 * n) (g.B.Bench.registers c.args.bench.now) few in
     let lane = lt-ltb c.args.lane (g.B.Bench.lanes c.args.bench.now) within in
     record {

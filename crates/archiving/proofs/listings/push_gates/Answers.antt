@@ -1,15 +1,8 @@
 use Rattle.std.proofs.Common.{vec_items, codes}
-use Rattle.player.proofs.Played.{places_count}
 use Rattle.archiving.specs.Listings.{listed_text, gates_text}
 use Rattle.archiving.proofs.Written.{pushed_as}
 use Rattle.archiving.proofs.Listed.{listed_whole, listed_not}
 use Rattle.archiving.proofs.listings.push_gates.Goals as goal
-
-pub push_listed-requires : goal.push_listed-requires
-push_listed-requires c =
-    let p = c.in-Ok.page in
-    let h = c.in-Ok.ensures in
-    places_count c.args.bytes.now p.sockets p.scratch p.kinds.now p.places.now h.0 h.1
 
 pub returns : goal.returns
 returns c =

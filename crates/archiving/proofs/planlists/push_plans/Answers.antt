@@ -19,8 +19,8 @@ returns c =
     let x = lines_of 0 (schedule_plan aes128) in
     let y = lines_of 0 (seal_plan aes128) in
     let z = lines_of 0 (open_plan aes128) in
-    let p : Extends x v1 v2 = subst (λ (ps : List Play). Extends (lines_of 0 ps) v1 v2) c.schedule_plan.ensures c.in_ok-push_schedule.ensures in
-    let q : Extends y v3 v4 = subst (λ (ps : List Play). Extends (lines_of 0 ps) v3 v4) c.seal_plan.ensures c.in_ok-push_rounds.ensures in
-    let r : Extends z v5 v6 = subst (λ (ps : List Play). Extends (lines_of 0 ps) v5 v6) c.open_plan.ensures c.in_ok-push_rounds-2.ensures in
+    let p : Extends x v1 v2 = subst (λ (ps : List Play). Extends (lines_of 0 ps) v1 v2) c.plays.ensures c.in_ok-push_schedule.ensures in
+    let q : Extends y v3 v4 = subst (λ (ps : List Play). Extends (lines_of 0 ps) v3 v4) c.plays-2.ensures c.in_ok-push_rounds.ensures in
+    let r : Extends z v5 v6 = subst (λ (ps : List Play). Extends (lines_of 0 ps) v5 v6) c.plays-3.ensures c.in_ok-push_rounds-2.ensures in
     extends_then x (y ++ z) v0 v2 v6 (extends_from x v0 v1 v2 _ c.in_ok-push_text.ensures p)
     (extends_then y z v2 v4 v6 (extends_from y v2 v3 v4 _ c.in_ok-push_text-2.ensures q) (extends_from z v4 v5 v6 _ c.in_ok-push_text-3.ensures r))

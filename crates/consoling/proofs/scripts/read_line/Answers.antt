@@ -11,13 +11,13 @@ use Rattle.consoling.proofs.scripts.read_line.Goals as goal
 
 pub returns-in_ok-push-in-Some-2 : goal.returns-in_ok-push-in-Some-2
 returns-in_ok-push-in-Some-2 c =
-    let l = c.args.line.now in
+    let l = c.args.line.text.now in
     let a = asked c.in-Some.call in
     let turns = vec_items c.args.script.now.turns in
     let log = vec_items c.args.script.now.log in
     let loud : silent l ≡ false = sym c.if-is_silent.ensures in
     let call : call_in l ≡ Some a = sym c.in_ok-call.ensures ∙ ap (option_map asked) c.in-Some.is in
     record {
-      turns = c.in_ok-push-in-Some-2.ensures.items ∙ ap (λ (x : List Turn). turns ++ x) (sym (turn_called c.args.number l a loud call));
-      calls = ap asks c.in_ok-push-in-Some.ensures.items ∙ map-append (λ (e : Entry). asked e.call) log _ ∙ ap (λ (x : List Asked). asks log ++ x) (sym (call_called c.args.number l a loud call));
+      turns = c.in_ok-push-in-Some-2.ensures.items ∙ ap (λ (x : List Turn). turns ++ x) (sym (turn_called c.args.line.number l a loud call));
+      calls = ap asks c.in_ok-push-in-Some.ensures.items ∙ map-append (λ (e : Entry). asked e.call) log _ ∙ ap (λ (x : List Asked). asks log ++ x) (sym (call_called c.args.line.number l a loud call));
     }

@@ -1,13 +1,12 @@
 use Rattle.std.proofs.Common.{◌≡◌, ap, ◌∙◌}
-use Rattle.standard.specs.Field.{inv_affine}
 use Rattle.coordinates.specs.Coordinates.{to_coordinates}
 use Rattle.coordinates.specs.Carried.{carried_inv_affine}
 use Rattle.coordinates.proofs.CarriedLaws.{inv_affine_carried_lem}
 use Rattle.coordinates.proofs.carried.inv_affine_carried.Goals as goal
 
-is : (c : goal.After-to_coordinates) → c.to_coordinates.result ≡ carried_inv_affine c.args.c
+is : (c : goal.After-carried) → c.carried.result ≡ carried_inv_affine c.args.c
 unfolding carried_inv_affine
-is c = c.to_coordinates.ensures.is ∙ ap to_coordinates (c.inv_affine.ensures ∙ ap inv_affine c.from_coordinates.ensures.is)
+is c = c.carried.ensures.2 ∙ ap to_coordinates c.carried.ensures.1
 
 pub returns : goal.returns
 returns c = record { is = is c; carries = λ b h e. is c ∙ ap carried_inv_affine e ∙ inv_affine_carried_lem b h }

@@ -1,9 +1,6 @@
-use Rattle.std.proofs.Common.{ap, ◌∙◌, ap₂}
-use lib.Bits.{bit_xor}
-use Rattle.standard.specs.Field.{mul}
 use Rattle.coordinates.specs.Tower.{first_of}
 use Rattle.coordinates.proofs.tower.first_of.Goals as goal
 
 pub returns : goal.returns
 unfolding first_of
-returns c = ap₂ bit_xor c.mul.ensures (c.mul-2.ensures ∙ ap (mul 0x27) c.middle_power.ensures)
+returns c = c.part.ensures

@@ -1,12 +1,17 @@
-use Rattle.std.proofs.Common.{◌≡◌, map}
-use Rattle.bench.specs.Model.{told}
-use Rattle.std.specs.List.{range_with_len}
-use Rattle.player.specs.Pages.{gate_at}
-use Rattle.player.specs.Plays.{ran, ran_in, placed}
+use Rattle.std.proofs.Common.{◌≡◌, ◌+◌, ◌*◌, ◌≤◌, map, length}
+use Rattle.std.specs.List.{AllByRecursion as All}
+use Rattle.bench.specs.Benches.{meaning}
+use Rattle.player.specs.Pages.{gates_from}
+use Rattle.player.specs.Plays.{Within, ran, ran_in, placed}
 use Rattle.player.proofs.plays.play.Given as goal
 
-abbrev pub invariant-loop-i : goal.invariant-loop-i
-invariant-loop-i g l =
-    let m = told g.B.Bench.registers g.B.Bench.lanes g.B.Bench.left g.B.Bench.shows in
-    (m l.bench ≡ ran (map (placed l.page.sockets l.bases) (map (gate_at l.page.kinds.now l.page.places.now) (range_with_len 0 l.i))) (m l.initial.bench))
-    × (g.B.Bench.beneath l.bench ≡ ran_in (map (placed l.page.sockets l.bases) (map (gate_at l.page.kinds.now l.page.places.now) (range_with_len 0 l.i))) (g.B.Bench.beneath l.initial.bench))
+-- the gates still to come make of the bench what all of them make of it at first
+abbrev pub invariant-loop-gate : goal.invariant-loop-gate
+invariant-loop-gate g l =
+    let rest = gates_from l.gate-iterator.kinds.now l.gate-iterator.places.now in
+    let all = gates_from l.initial.gate-iterator.kinds.now l.initial.gate-iterator.places.now in
+    let place = placed l.bases.sockets l.bases.bases.now in
+    (ran (map place rest) (meaning g.B.Bench l.bench) ≡ ran (map place all) (meaning g.B.Bench l.initial.bench))
+    × ((ran_in (map place rest) (g.B.Bench.beneath l.bench) ≡ ran_in (map place all) (g.B.Bench.beneath l.initial.bench))
+    × ((All (Within (8 * l.bases.sockets + l.bases.scratch)) rest)
+    × ((length rest ≤ g.B.Bench.left l.bench) × (g.B.Bench.registers l.bench ≡ l.bases.registers))))

@@ -1,17 +1,14 @@
-use Rattle.std.proofs.Common.{◌≡◌, ◌+◌, ◌-◌, ◌*◌, take, drop, sym, ap, ◌∙◌, ap₂, add-one, arith}
+use Rattle.std.proofs.Common.{ℕ, [], get_or, sym, ap, ◌∙◌, add-one}
 use Rattle.unit.specs.Held.{view}
 use Rattle.law.specs.Calls.{place_key, place_block, next}
-use Rattle.sealing.specs.Sealed.{key_in}
 use Rattle.sealing.specs.Steps.{filled}
 use Rattle.sealing.proofs.lanes.place_all.Goals as goal
 
-pub loop-i-preserved : goal.loop-i-preserved
-loop-i-preserved g c =
-    let i = c.loop-i.i in
-    let input = c.args.input.now in
-    let at = 16 * (i + 1) in
-    let sixteen : at + 16 - at ≡ 16 = omega arith in
+pub loop-lane-preserved : goal.loop-lane-preserved
+loop-lane-preserved g c =
+    let i = c.loop-lane.lane in
+    let key = c.args.key.now in
+    let block = λ (i : ℕ). get_or c.args.blocks.now i [] in
     c.place_block.ensures.after
-    ∙ ap (λ v. next v (place_block i (take (at + 16 - at) (drop at input)))) c.place_key.ensures.after
-    ∙ ap₂ (λ v n. next (next v (place_key i (key_in input))) (place_block i (take n (drop at input)))) c.loop-i.invariant sixteen
-    ∙ ap (filled (view g.B.Bench c.args.unit.now) input) (sym (add-one i))
+    ∙ ap (λ v. next v (place_block i (block i))) (c.place_key.ensures.after ∙ ap (λ v. next v (place_key i key)) c.loop-lane.invariant)
+    ∙ ap (filled (view g.B.Bench c.args.unit.now) key block) (sym (add-one i))

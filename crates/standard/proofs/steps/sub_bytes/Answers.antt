@@ -1,15 +1,7 @@
-use Rattle.std.proofs.Common.{get_or, sym, refl, ap, ◌∙◌, arith}
+use Rattle.std.proofs.Common.{rules}
 use Rattle.standard.specs.Field.{SBox}
-use Rattle.standard.specs.Cipher.{SubBytes}
-use Rattle.standard.proofs.Filling.{filled_more, filled_all}
-use Rattle.standard.proofs.StateLaws.{sixteen_at}
+use Rattle.standard.proofs.Filling.{mapped}
 use Rattle.standard.proofs.steps.sub_bytes.Goals as goal
 
-pub loop-i-init : goal.loop-i-init
-loop-i-init c = (refl, λ k h. absurd (omega arith))
-
-pub loop-i-preserved : goal.loop-i-preserved
-loop-i-preserved c = filled_more c.loop-i.out (λ k. SBox (get_or c.args.state.now k 0)) c.loop-i.i _ c.loop-i.invariant c.loop-i-test.true c.sbox.ensures.is
-
 pub returns : goal.returns
-returns c = filled_all c.loop-i.out (λ k. SBox (get_or c.args.state.now k 0)) c.loop-i.i c.loop-i.invariant c.loop-i-test.false ∙ sym (ap SubBytes (sixteen_at c.args.state.now c.told-state))
+returns c = mapped _ _ SBox (λ x r f' call. search rules) _ _ 16 c.told-state c.map.ensures.items

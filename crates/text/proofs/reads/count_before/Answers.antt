@@ -1,28 +1,6 @@
-use Rattle.std.proofs.Common.{◌<◌, not, eqb, length, get_or, ap, arith}
-use Rattle.std.proofs.lemmas.List.Sums.{prefix_len-drop_yes, prefix_len-drop_no, prefix_len-drop_all}
-use Rattle.std.proofs.lemmas.Bool.{eq-eqb, ne_eqb}
+use Rattle.std.proofs.Common.{eqb, ◌∙◌}
+use Rattle.text.proofs.Scans.{place_or_end}
 use Rattle.text.proofs.reads.count_before.Goals as goal
 
-pub returns-then-byte-stop : goal.returns-then-byte-stop
-returns-then-byte-stop c =
-    let xs = c.args.bytes.now in
-    let stop = c.args.stop in
-    let i = c.loop-i.i in
-    let less : i < length xs = omega arith in
-    let stops = prefix_len-drop_no (λ b. not (eqb b stop)) xs i 0 less (ap not (eq-eqb (get_or xs i 0) stop c.if-byte-stop.true)) in
-    record { value = omega arith; within = omega arith }
-
-pub loop-i-preserved : goal.loop-i-preserved
-loop-i-preserved c =
-    let xs = c.args.bytes.now in
-    let stop = c.args.stop in
-    let i = c.loop-i.i in
-    let less : i < length xs = omega arith in
-    let goes = prefix_len-drop_yes (λ b. not (eqb b stop)) xs i 0 less (ap not (ne_eqb (get_or xs i 0) stop c.if-byte-stop.false)) in
-    omega arith
-
-pub returns : goal.returns
-returns c =
-    let xs = c.args.bytes.now in
-    let ends = prefix_len-drop_all (λ b. not (eqb b c.args.stop)) xs c.loop-i.i (omega arith) in
-    record { value = omega arith; within = omega arith }
+pub returns-clause-value : goal.returns-clause-value
+returns-clause-value c = c.unwrap_or.ensures ∙ place_or_end (λ b. eqb b c.args.stop) c.args.bytes.now _ c.find.ensures

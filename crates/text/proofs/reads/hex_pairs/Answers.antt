@@ -1,37 +1,37 @@
-use Rattle.std.proofs.Common.{◌≡◌, ◌+◌, ◌*◌, ◌%◌, ◌<◌, [], length, get_or, drop, Some, None, vec_items, sym, ap, ◌∙◌, append-nil, arith}
+use Rattle.std.proofs.Common.{rules, ◌≡◌, ◌+◌, ◌*◌, ◌/◌, ◌%◌, [], length, drop, vec_items, Some, sym, ap, ◌∙◌, append-nil, arith}
 use Rattle.std.proofs.lemmas.List.{at_drop_all}
-use Rattle.text.specs.Text.{hex_value, pair_value, pairs_in}
-use Rattle.text.proofs.Pairs.{prefixed, pair_more, pair_bad, pairs_odd}
+use Rattle.text.proofs.Pairs.{prefixed, prefixed_nothing, bytes_of, bytes_of_pairs, pair_more, pair_bad, pairs_odd}
 use Rattle.text.proofs.reads.hex_pairs.Goals as goal
 
-pub returns-then-word-ne0 : goal.returns-then-word-ne0
-returns-then-word-ne0 c =
-    let odd : length c.args.word.now % 2 ≡ 1 = omega (arith, c.if-word-ne0.true) in
+pub returns-then-not-is_empty : goal.returns-then-not-is_empty
+returns-then-not-is_empty c =
+    let odd : length c.args.word.now % 2 ≡ 1 = grind arith in
     sym (pairs_odd c.args.word.now odd)
+
+pub loop-high-init : goal.loop-high-init
+loop-high-init c =
+    let xs = c.args.word.now in
+    let even : length xs ≡ 2 * (length xs / 2) = grind arith in
+    ap (λ l. prefixed l (bytes_of c.as_chunks.result.0.now)) c.new-bytes.ensures.items
+    ∙ prefixed_nothing _
+    ∙ ap bytes_of c.as_chunks.ensures.front
+    ∙ bytes_of_pairs (length xs / 2) xs even
 
 pub returns-in_default : goal.returns-in_default
 returns-in_default c =
-    let xs = c.args.word.now in
-    let i = c.loop-i.i in
-    let less : 2 * i + 1 < length xs = omega arith in
-    let bad : pair_value (hex_value (get_or xs (2 * i) 0)) (hex_value (get_or xs (2 * i + 1) 0)) ≡ None = sym c.in_default.ensures in
-    sym (c.loop-i.invariant ∙ pair_bad xs i less (vec_items c.loop-i.bytes) bad)
+    let bad = sym c.hex_byte.ensures ∙ c.in_default.is in
+    sym (pair_bad _ c.loop-high.high-index (search rules) (vec_items c.loop-high.bytes) bad) ∙ c.loop-high.invariant
 
-pub loop-i-preserved : goal.loop-i-preserved
-loop-i-preserved c =
-    let xs = c.args.word.now in
-    let i = c.loop-i.i in
-    let b = c.in-Some.byte in
-    let less : 2 * i + 1 < length xs = omega arith in
-    let one : pair_value (hex_value (get_or xs (2 * i) 0)) (hex_value (get_or xs (2 * i + 1) 0)) ≡ Some b = sym c.in-Some.ensures in
-    c.loop-i.invariant
-    ∙ pair_more xs i less (vec_items c.loop-i.bytes) b one
-    ∙ ap (λ l. prefixed l (pairs_in (drop (2 * (i + 1)) xs))) (sym c.in_ok-push.ensures.items)
+pub loop-high-preserved : goal.loop-high-preserved
+loop-high-preserved c =
+    let had = vec_items c.loop-high.bytes in
+    let one = sym c.hex_byte.ensures ∙ c.in-Some.is in
+    ap (λ l. prefixed l (bytes_of (drop (c.loop-high.high-index + 1) c.as_chunks.result.0.now))) c.in_ok-push.ensures.items
+    ∙ sym (pair_more _ c.loop-high.high-index (search rules) had c.in-Some.byte one)
+    ∙ c.loop-high.invariant
 
 pub returns : goal.returns
 returns c =
-    let xs = c.args.word.now in
-    let i = c.loop-i.i in
-    let had = vec_items c.loop-i.bytes in
-    let all : pairs_in (drop (2 * i) xs) ≡ Some [] = at_drop_all pairs_in xs (2 * i) (omega arith) in
-    sym (c.loop-i.invariant ∙ ap (prefixed had) all ∙ ap Some (append-nil had))
+    let had = vec_items c.loop-high.bytes in
+    let all : bytes_of (drop c.loop-high.high-index c.as_chunks.result.0.now) ≡ Some [] = at_drop_all bytes_of c.as_chunks.result.0.now c.loop-high.high-index (search rules) in
+    sym (sym c.loop-high.invariant ∙ ap (prefixed had) all ∙ ap Some (append-nil had))

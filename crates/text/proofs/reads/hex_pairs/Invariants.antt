@@ -1,7 +1,8 @@
-use Rattle.std.proofs.Common.{◌≡◌, ◌*◌, drop, vec_items}
+use Rattle.std.proofs.Common.{◌≡◌, drop, vec_items}
 use Rattle.text.specs.Text.{pairs_in}
-use Rattle.text.proofs.Pairs.{prefixed}
+use Rattle.text.proofs.Pairs.{prefixed, bytes_of}
 use Rattle.text.proofs.reads.hex_pairs.Given as goal
 
-abbrev pub invariant-loop-i : goal.invariant-loop-i
-invariant-loop-i l = pairs_in l.word ≡ prefixed (vec_items l.bytes) (pairs_in (drop (2 * l.i) l.word))
+-- what is read already, and what the pairs that are left give
+abbrev pub invariant-loop-high : goal.invariant-loop-high
+invariant-loop-high l = prefixed (vec_items l.bytes) (bytes_of (drop l.high-index l.pairs)) ≡ pairs_in l.word

@@ -10,22 +10,24 @@ gate_rows-requires c =
     let w = fit c.args.self.now.width in
     let room : c.rows-rows.result * c.row-row.result ≤ n =
     subst (λ x. x ≤ n) (sym (ap₂ (λ x y. x * y) c.rows-rows.ensures c.row-row.ensures)) (rows_fit n w) in
-    (room, (omega arith, (omega arith, omega arith)))
+    let has = c.in_ok-ask_gate.ensures.has in
+    (room, (omega (arith, has.0), (omega (arith, has.1.0), omega (arith, has.1.1.0))))
 
 pub returns : goal.returns
 returns c =
     let bytes = c.args.self.now.bytes.now in
     let width = c.args.self.now.width in
     let left = c.args.self.now.left in
-    let k = c.args.kind in
-    let t = c.args.target in
-    let a = c.args.a in
-    let b = c.args.b in
-    let ht : t < 8 * fit width = omega arith in
-    let ha : a < 8 * fit width = omega arith in
-    let hb : b < 8 * fit width = omega arith in
+    let k = c.args.gate.kind in
+    let t = c.args.gate.target in
+    let a = c.args.gate.first in
+    let b = c.args.gate.second in
+    let has = c.in_ok-ask_gate.ensures.has in
+    let ht : t < 8 * fit width = omega (arith, has.0) in
+    let ha : a < 8 * fit width = omega (arith, has.1.0) in
+    let hb : b < 8 * fit width = omega (arith, has.1.1.0) in
     let done = c.gate_rows.ensures ∙ ap₂ (λ w n. rows_done k t a b w n bytes) c.row-row.ensures c.rows-rows.ensures in
-    let leaves = ap₂ (λ x n. row_model x width (n - 1)) done c.left-left.ensures ∙ row_gated bytes width left k t a b ht ha hb in
+    let leaves = ap₂ (λ x n. row_model x width (n - 1)) done c.left-2.ensures ∙ row_gated bytes width left k t a b ht ha hb in
     record {
       answer = search rules;
       leaves = leaves;

@@ -1,4 +1,4 @@
-use Rattle.std.proofs.Common.{◌≡◌, ◌-◌, ◌<◌, ◌≤◌, Ok, sym, ap, ◌∙◌, arith, rules}
+use Rattle.std.proofs.Common.{◌≡◌, ◌-◌, ◌<◌, ◌≤◌, min, Ok, sym, ap, ◌∙◌, arith, rules}
 use Rattle.bench.specs.Model.{told, both, after, written, lanes_in, written_in}
 use Rattle.bench.specs.Side.{side_model, side_lanes}
 use Rattle.bench.proofs.Accepts.{set_accepted}
@@ -12,16 +12,18 @@ returns-then-lane-inner g c =
     let x = g.F.Bench.beneath c.args.self.now.first in
     let y = g.S.Bench.beneath c.args.self.now.second in
     let tie : lanes_in x ≡ m.lanes = g.F.Bench.tied c.args.self.now.first in
+    let has = c.in_ok-ask_spot.ensures.has in
     let r = c.args.register in
     let l = c.args.lane in
     let v = c.args.value in
-    let h : l < side_lanes m.lanes n.lanes = omega arith in
+    let h : l < side_lanes m.lanes n.lanes = omega (arith, has.1) in
+    let hr : r < min m.registers n.registers = omega (arith, has.0) in
     let f : l < m.lanes = omega arith in
-    let ok : c.set.result ≡ Ok tt = c.set.ensures.answer ∙ set_accepted m r l (omega arith) f in
+    let ok : c.set.result ≡ Ok tt = c.set.ensures.answer ∙ set_accepted m r l (omega (arith, hr)) f in
     record {
       answer = search rules;
       leaves = ap (λ x. side_model x n) (c.set.ensures.leaves ∙ ap (λ x. after x (written r l v m) m) ok)
-          ∙ side_written_first m n r l v (omega arith) h f ∙ sym (ap (λ x. after x (written r l v (side_model m n)) (side_model m n)) ok);
+          ∙ side_written_first m n r l v hr h f ∙ sym (ap (λ x. after x (written r l v (side_model m n)) (side_model m n)) ok);
       beneath = ap (λ z. both z y) (c.set.ensures.beneath ∙ ap (λ z. after z (written_in r l v x) x) ok)
           ∙ sym (in_first x y r l v (omega arith)) ∙ sym (ap (λ z. after z (written_in r l v (both x y)) (both x y)) ok);
     }
@@ -33,18 +35,20 @@ returns-else-lane-inner g c =
     let x = g.F.Bench.beneath c.args.self.now.first in
     let y = g.S.Bench.beneath c.args.self.now.second in
     let tie : lanes_in x ≡ m.lanes = g.F.Bench.tied c.args.self.now.first in
+    let has = c.in_ok-ask_spot.ensures.has in
     let r = c.args.register in
     let l = c.args.lane in
     let v = c.args.value in
-    let h : l < side_lanes m.lanes n.lanes = omega arith in
+    let h : l < side_lanes m.lanes n.lanes = omega (arith, has.1) in
+    let hr : r < min m.registers n.registers = omega (arith, has.0) in
     let f : m.lanes ≤ l = omega arith in
     let call = c.set-else-lane-inner in
     let at : c.lanes-inner.result ≡ m.lanes = c.lanes-inner.ensures in
-    let ok : call.result ≡ Ok tt = call.ensures.answer ∙ set_accepted n r (l - c.lanes-inner.result) (omega arith) (omega arith) in
+    let ok : call.result ≡ Ok tt = call.ensures.answer ∙ set_accepted n r (l - c.lanes-inner.result) (omega (arith, hr)) (omega (arith, h, at)) in
     record {
       answer = search rules;
       leaves = ap (side_model m) (call.ensures.leaves ∙ ap (λ x. after x (written r (l - c.lanes-inner.result) v n) n) ok ∙ ap (λ x. written r (l - x) v n) at)
-          ∙ side_written_second m n r l v (omega arith) h f ∙ sym (ap (λ x. after x (written r l v (side_model m n)) (side_model m n)) ok);
+          ∙ side_written_second m n r l v hr h f ∙ sym (ap (λ x. after x (written r l v (side_model m n)) (side_model m n)) ok);
       beneath = ap (both x) (call.ensures.beneath ∙ ap (λ z. after z (written_in r (l - c.lanes-inner.result) v y) y) ok ∙ ap (λ z. written_in r (l - z) v y) (at ∙ sym tie))
           ∙ sym (in_second x y r l v (omega arith)) ∙ sym (ap (λ z. after z (written_in r l v (both x y)) (both x y)) ok);
     }

@@ -7,15 +7,16 @@ use Rattle.bench.proofs.word.WordBenchBench.gate.Goals as goal
 pub returns : goal.returns
 returns c =
     let words = c.args.self.now.words.now in
-    let t : c.args.target < word_count words = omega arith in
-    let a : c.args.a < word_count words = omega arith in
-    let b : c.args.b < word_count words = omega arith in
-    let p : get_or words c.args.a 0 < 2 ^ 64 = search rules in
-    let q : get_or words c.args.b 0 < 2 ^ 64 = search rules in
-    let leaves = ap₂ (λ v n. word_model (set words c.args.target v) (n - 1)) c.combine.ensures c.left-left.ensures
-    ∙ word_gated c.args.kind words c.args.self.now.left c.args.target c.args.a c.args.b t a b p q in
+    let has = c.in_ok-ask_gate.ensures.has in
+    let t : c.args.gate.target < word_count words = omega (arith, has.0) in
+    let a : c.args.gate.first < word_count words = omega (arith, has.1.0) in
+    let b : c.args.gate.second < word_count words = omega (arith, has.1.1.0) in
+    let p : get_or words c.args.gate.first 0 < 2 ^ 64 = search rules in
+    let q : get_or words c.args.gate.second 0 < 2 ^ 64 = search rules in
+    let leaves = ap₂ (λ v n. word_model (set words c.args.gate.target v) (n - 1)) c.on_words.ensures c.left-2.ensures
+    ∙ word_gated c.args.gate.kind words c.args.self.now.left c.args.gate.target c.args.gate.first c.args.gate.second t a b p q in
     record {
       answer = search rules;
       leaves = leaves;
-      beneath = ap₂ (part c.args.self.now.words.ghost_name) (beyond_set words c.args.target c.combine.result (omega arith)) leaves;
+      beneath = ap₂ (part c.args.self.now.words.ghost_name) (beyond_set words c.args.gate.target c.on_words.result (omega arith)) leaves;
     }

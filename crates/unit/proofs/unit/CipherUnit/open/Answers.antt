@@ -11,7 +11,7 @@ use Rattle.unit.proofs.unit.CipherUnit.open.Goals as goal
 
 pub returns-in_err-may_work : goal.returns-in_err-may_work
 returns-in_err-may_work g c =
-    let said = c.in_err-may_work.ensures ∙ ap (λ k. given tt (working (shape_of g.B.Bench c.args.self.now) k)) c.open_gates.ensures.count in
+    let said = c.in_err-may_work.ensures ∙ ap (λ k. given tt (working (shape_of g.B.Bench c.args.self.now) k)) c.gates.ensures.count in
     record { answer = search rules; after = stays tt _ _ _ _ said; deciphered = no_lane _ _ _ _ (refused tt _ _ said) }
 
 pub returns : goal.returns
@@ -20,11 +20,11 @@ returns g c =
     let s = shape_of g.B.Bench u in
     let m = meaning g.B.Bench u.bench in
     let x = g.B.Bench.beneath u.bench in
-    let said = c.in_ok-may_work.ensures ∙ ap (λ k. given tt (working s k)) c.open_gates.ensures.count in
+    let said = c.in_ok-may_work.ensures ∙ ap (λ k. given tt (working s k)) c.gates.ensures.count in
     let asked = accepted tt tt (working s O) said in
-    let ok : c.open_all.result ≡ Ok tt = c.open_all.ensures.answer ∙ plan_accepted s m (open_plan kind) refl refl (working_fits s O asked) (working_tells s O asked).2 in
-    let leaves = c.open_all.ensures.leaves ∙ ap (λ r. after r (worked (open_plan kind) m) m) ok in
-    let under = c.open_all.ensures.beneath ∙ ap (λ r. after r (worked_in (open_plan kind) x) x) ok in
+    let ok : c.run.result ≡ Ok tt = c.run.ensures.answer ∙ plan_accepted s m (open_plan kind) refl refl (working_fits s O asked) (working_tells s O asked).2 in
+    let leaves = c.run.ensures.leaves ∙ ap (λ r. after r (worked (open_plan kind) m) m) ok in
+    let under = c.run.ensures.beneath ∙ ap (λ r. after r (worked_in (open_plan kind) x) x) ok in
     record {
       answer = ok ∙ said;
       after = becomes tt tt _ _ _ _ said (λ i. record { model = leaves i; beneath = under i; records = u.table.records });

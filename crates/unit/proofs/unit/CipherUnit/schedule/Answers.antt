@@ -14,13 +14,13 @@ returns-in_err-may_schedule g c =
     let said = c.in_err-may_schedule.ensures in
     record { answer = search rules; after = stays tt _ _ _ _ said; expanded = no_lane _ _ _ _ (refused tt _ _ said) }
 
-pub returns-in_err-schedule_all : goal.returns-in_err-schedule_all
-returns-in_err-schedule_all g c =
+pub returns-in_err-run : goal.returns-in_err-run
+returns-in_err-run g c =
     let u = c.args.self.now in
     let s = shape_of g.B.Bench u in
     let m = meaning g.B.Bench u.bench in
     let asked = accepted tt tt (scheduling s) c.in_ok-may_schedule.ensures in
-    absurd (never (c.in_err-schedule_all.ensures.answer ∙ plan_accepted s m (schedule_plan kind) refl refl (scheduling_fits s asked) (scheduling_tells s asked).1))
+    absurd (never (c.in_err-run.ensures.answer ∙ plan_accepted s m (schedule_plan kind) refl refl (scheduling_fits s asked) (scheduling_tells s asked).1))
 
 pub returns : goal.returns
 returns g c =
@@ -28,7 +28,7 @@ returns g c =
     let m = meaning g.B.Bench u.bench in
     let said = c.in_ok-may_schedule.ensures in
     let asked = accepted tt tt (scheduling (shape_of g.B.Bench u)) said in
-    let done = c.in_ok-schedule_all.ensures in
+    let done = c.in_ok-run.ensures in
     record {
       answer = search rules;
       after = becomes tt tt _ _ _ _ said (λ i. record { model = done.leaves i; beneath = done.beneath i; records = c.schedule.ensures i });

@@ -11,7 +11,7 @@ use Rattle.unit.proofs.unit.CipherUnit.seal.Goals as goal
 
 pub returns-in_err-may_work : goal.returns-in_err-may_work
 returns-in_err-may_work g c =
-    let said = c.in_err-may_work.ensures ∙ ap (λ k. given tt (working (shape_of g.B.Bench c.args.self.now) k)) c.seal_gates.ensures.count in
+    let said = c.in_err-may_work.ensures ∙ ap (λ k. given tt (working (shape_of g.B.Bench c.args.self.now) k)) c.gates.ensures.count in
     record { answer = search rules; after = stays tt _ _ _ _ said; enciphered = no_lane _ _ _ _ (refused tt _ _ said); staged = no_lane _ _ _ _ (refused tt _ _ said) }
 
 pub returns : goal.returns
@@ -20,11 +20,11 @@ returns g c =
     let s = shape_of g.B.Bench u in
     let m = meaning g.B.Bench u.bench in
     let x = g.B.Bench.beneath u.bench in
-    let said = c.in_ok-may_work.ensures ∙ ap (λ k. given tt (working s k)) c.seal_gates.ensures.count in
+    let said = c.in_ok-may_work.ensures ∙ ap (λ k. given tt (working s k)) c.gates.ensures.count in
     let asked = accepted tt tt (working s S) said in
-    let ok : c.seal_all.result ≡ Ok tt = c.seal_all.ensures.answer ∙ plan_accepted s m (seal_plan kind) refl refl (working_fits s S asked) (working_tells s S asked).2 in
-    let leaves = c.seal_all.ensures.leaves ∙ ap (λ r. after r (worked (seal_plan kind) m) m) ok in
-    let under = c.seal_all.ensures.beneath ∙ ap (λ r. after r (worked_in (seal_plan kind) x) x) ok in
+    let ok : c.run.result ≡ Ok tt = c.run.ensures.answer ∙ plan_accepted s m (seal_plan kind) refl refl (working_fits s S asked) (working_tells s S asked).2 in
+    let leaves = c.run.ensures.leaves ∙ ap (λ r. after r (worked (seal_plan kind) m) m) ok in
+    let under = c.run.ensures.beneath ∙ ap (λ r. after r (worked_in (seal_plan kind) x) x) ok in
     record {
       answer = ok ∙ said;
       after = becomes tt tt _ _ _ _ said (λ i. record { model = leaves i; beneath = under i; records = u.table.records });

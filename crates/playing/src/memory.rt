@@ -1,0 +1,118 @@
+// The memory of the benches that a script asks for.
+ghost use Rattle.std.specs.Prelude.{◌≡◌, IfOk};
+ghost use Rattle.bench.specs.Model.{told};
+ghost use Rattle.playing.specs.Setups.{opens_one, opens};
+ghost use Rattle.playing.specs.Memory.{holds, holds_both};
+
+use crate::setups::{Setup, Single};
+use bench::benches::Bench;
+use bench::either::EitherBench;
+use bench::row::RowBench;
+use bench::side::SideBySide;
+use bench::word::WordBench;
+use std::alloc::{AllocError, Global};
+
+pub type SingleBench<'a> = EitherBench<WordBench<'a>, RowBench<'a>>;
+
+// The commonest comes first: a bench of words alone, which a caller can take out and play at no cost for the choice.
+pub type SetupBench<'a> = EitherBench<
+    WordBench<'a>,
+    EitherBench<RowBench<'a>, SideBySide<SingleBench<'a>, SingleBench<'a>>>,
+>;
+
+// The memory of one bench, and its allotment.
+#[derive(Drop)]
+enum SingleMemory {
+    Word {
+        words: Vec<u64>,
+        allotment: u32,
+    },
+    Row {
+        width: usize,
+        bytes: Vec<u8>,
+        allotment: u32,
+    },
+}
+
+impl SingleMemory {
+    // Memory of zeros.
+    fn zeros(heap: Global, single: Single) -> Result<SingleMemory, AllocError>
+        ensures { IfOk result (λ m. holds m ≡ opens_one single) }
+    {
+        match single {
+            Single::Word {
+                registers,
+                allotment,
+            } => {
+                let words = vec![in heap; 0u64; registers]?;
+                Ok(SingleMemory::Word { words, allotment })
+            }
+            Single::Row {
+                width,
+                bytes,
+                allotment,
+            } => {
+                let bytes = vec![in heap; 0u8; bytes]?;
+                Ok(SingleMemory::Row {
+                    width,
+                    bytes,
+                    allotment,
+                })
+            }
+        }
+    }
+
+    // The bench over that memory.
+    fn bench(&mut self) -> SingleBench<'_>
+        ensures { told ⟦<SingleBench<'static> as Bench>⟧.registers ⟦<SingleBench<'static> as Bench>⟧.lanes ⟦<SingleBench<'static> as Bench>⟧.left ⟦<SingleBench<'static> as Bench>⟧.shows result ≡ holds self.old }
+    {
+        match self {
+            SingleMemory::Word { words, allotment } => {
+                EitherBench::Left(WordBench::new(words.as_mut_slice(), *allotment))
+            }
+            SingleMemory::Row {
+                width,
+                bytes,
+                allotment,
+            } => EitherBench::Right(RowBench::new(bytes.as_mut_slice(), *width, *allotment)),
+        }
+    }
+}
+
+// The memory of one bench, or of two side by side.
+#[derive(Drop)]
+pub struct SetupMemory {
+    first: SingleMemory,
+    second: Option<SingleMemory>,
+}
+
+impl SetupMemory {
+    // Memory of zeros.
+    pub fn zeros(heap: Global, setup: Setup) -> Result<SetupMemory, AllocError>
+        ensures { IfOk result (λ m. holds_both m ≡ opens setup) }
+    {
+        let first = SingleMemory::zeros(heap, setup.first)?;
+        let second = match setup.second {
+            Some(single) => Some(SingleMemory::zeros(heap, single)?),
+            None => None,
+        };
+        Ok(SetupMemory { first, second })
+    }
+
+    // The bench over that memory.
+    pub fn bench(&mut self) -> SetupBench<'_>
+        ensures { told ⟦<SetupBench<'static> as Bench>⟧.registers ⟦<SetupBench<'static> as Bench>⟧.lanes ⟦<SetupBench<'static> as Bench>⟧.left ⟦<SetupBench<'static> as Bench>⟧.shows result ≡ holds_both self.old }
+    {
+        let first = self.first.bench();
+        match &mut self.second {
+            Some(memory) => {
+                let second = memory.bench();
+                EitherBench::Right(EitherBench::Right(SideBySide { first, second }))
+            }
+            None => match first {
+                EitherBench::Left(words) => EitherBench::Left(words),
+                EitherBench::Right(rows) => EitherBench::Right(EitherBench::Left(rows)),
+            },
+        }
+    }
+}

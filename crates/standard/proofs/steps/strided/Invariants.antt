@@ -1,6 +1,0 @@
-use Rattle.std.proofs.Common.{◌*◌, ◌%◌, get_or}
-use Rattle.standard.proofs.Filling.{Filled}
-use Rattle.standard.proofs.steps.strided.Given as goal
-
-abbrev pub invariant-loop-i : goal.invariant-loop-i
-invariant-loop-i l = Filled l.out (λ k. get_or l.state ((l.stride * k) % 16) 0) l.i
