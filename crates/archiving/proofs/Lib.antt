@@ -4,3 +4,4 @@ mod Listed
 mod Held
 mod Cases
 mod Reaching
+mod Quarters

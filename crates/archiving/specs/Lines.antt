@@ -43,8 +43,12 @@ mark_text z = cond (z % 2 == 1) (codes " +1") []
 unfoldable pub mask_line : ℕ → Gate → ℕ → ℕ → ℕ → List ℕ
 mask_line i g q w z = gate_text i g ++ low_text (bit_xor w z) q ++ mark_text z ++ (10 ∷ [])
 
-unfoldable pub column_line : ℕ → Gate → ℕ → ℕ → ℕ → ℕ → List ℕ
-column_line i g w0 w1 w2 w3 = gate_text i g ++ low_text w3 8 ++ low_text w2 8 ++ low_text w1 8 ++ low_text w0 8 ++ (10 ∷ [])
+abbrev pub words_text : List ℕ → List ℕ
+words_text ws = flat_map (λ w. low_text w 8) ws
+
+-- the words of the column's quarters, the highest of them first
+unfoldable pub column_line : ℕ → Gate → List ℕ → List ℕ
+column_line i g ws = gate_text i g ++ words_text ws ++ (10 ∷ [])
 
 -- eight places
 abbrev pub name_text : Play → List ℕ

@@ -31,16 +31,20 @@ abbrev pub mask_lines : ℕ → ℕ → List ℕ → List ℕ → List Gate → 
 mask_lines q i us zs [] = []
 mask_lines q i us zs (g ∷ gs) = mask_line i g q (made_by g us) (made_by g zs) ++ mask_lines q (i + 1) (stepped g us) (stepped g zs) gs
 
-abbrev pub column_lines : ℕ → List ℕ → List ℕ → List ℕ → List ℕ → List Gate → List ℕ
-column_lines i w0 w1 w2 w3 [] = []
-column_lines i w0 w1 w2 w3 (g ∷ gs) =
-    column_line i g (made_by g w0) (made_by g w1) (made_by g w2) (made_by g w3) ++ column_lines (i + 1) (stepped g w0) (stepped g w1) (stepped g w2) (stepped g w3) gs
+-- the same, where the numbers hold the words of each of qs
+abbrev pub column_lines : ℕ → List (List ℕ) → List Gate → List ℕ
+column_lines i qs [] = []
+column_lines i qs (g ∷ gs) = column_line i g (map (made_by g) qs) ++ column_lines (i + 1) (map (stepped g) qs) gs
+
+-- what the numbers hold at the beginning, the highest quarter of the bytes first
+abbrev pub quarters : ℕ → List (List ℕ)
+quarters n = input_words 3 n ∷ input_words 2 n ∷ input_words 1 n ∷ input_words 0 n ∷ []
 
 abbrev pub masks_text : ℕ → ℕ → List Gate → List ℕ
 masks_text q n gs = codes " gate  kind    t    a    b   mask\n" ++ mask_lines q 0 (unit_words (8 * q) n) (unit_words 0 n) gs
 
 abbrev pub columns_text : ℕ → List Gate → List ℕ
-columns_text n gs = codes " gate  kind    t    a    b   column\n" ++ column_lines 0 (input_words 0 n) (input_words 1 n) (input_words 2 n) (input_words 3 n) gs
+columns_text n gs = codes " gate  kind    t    a    b   column\n" ++ column_lines 0 (quarters n) gs
 
 abbrev pub sizes_text : ℕ → ℕ → ℕ → List ℕ
 sizes_text g q c = codes "G = " ++ decimal g ++ codes ", Q = " ++ decimal q ++ codes ", C = " ++ decimal c ++ (10 ∷ [])

@@ -1,6 +1,6 @@
 // Single lines: each function appends to what `out` holds.
 ghost use Rattle.std.specs.Prelude.{◌≡◌, ℕ, ◌<◌, ◌≤◌, [], ◌∷◌, ◌++◌, OnOk};
-ghost use Rattle.archiving.specs.Lines.{spaces, padded, kind_text, gate_text, low_text, mark_text, mask_line, column_line, bases_text, play_line};
+ghost use Rattle.archiving.specs.Lines.{spaces, padded, kind_text, gate_text, low_text, mark_text, mask_line, words_text, column_line, bases_text, play_line};
 
 use crate::names::name_of;
 use bench::gates::Gate;
@@ -95,24 +95,27 @@ pub(crate) fn push_mask_line(
     push_text(out, b"\n")
 }
 
-// A gate, and its target's column, given by the words of its four quarters.
+fn push_words(out: &mut Vec<u8>, words: &[u64]) -> Result<(), AllocError>
+    ensures { OnOk result (out.new.items ≡ out.old.items ++ words_text words.now) }
+{
+    for word in words {
+        push_low(out, *word, 8)?;
+    }
+    Ok(())
+}
+
+// A gate, and its target's column, given by the words of its four quarters, the highest of them first.
 #[tactic(auto, unfolding(crate::specs::Lines::column_line))]
 pub(crate) fn push_column_line(
     out: &mut Vec<u8>,
     at: u64,
     gate: Gate,
-    w0: u64,
-    w1: u64,
-    w2: u64,
-    w3: u64,
+    column: &[u64; 4],
 ) -> Result<(), AllocError>
-    ensures { OnOk result (out.new.items ≡ out.old.items ++ column_line at gate w0 w1 w2 w3) }
+    ensures { OnOk result (out.new.items ≡ out.old.items ++ column_line at gate column.now) }
 {
     push_gate(out, at, gate)?;
-    push_low(out, w3, 8)?;
-    push_low(out, w2, 8)?;
-    push_low(out, w1, 8)?;
-    push_low(out, w0, 8)?;
+    push_words(out, column)?;
     push_text(out, b"\n")
 }
 

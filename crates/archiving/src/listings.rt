@@ -1,7 +1,7 @@
 // Pages gate by gate, and plans play by play: each function appends to what `out` holds.
-ghost use Rattle.std.specs.Prelude.{◌≡◌, ℕ, ◌+◌, ◌*◌, ◌^◌, ◌<◌, ◌≤◌, ◌++◌, length, drop, IfOk, OnOk};
+ghost use Rattle.std.specs.Prelude.{◌≡◌, ℕ, ◌+◌, ◌*◌, ◌^◌, ◌<◌, ◌≤◌, ◌++◌, map, length, drop, IfOk, OnOk, vec_items};
 ghost use Rattle.player.specs.Pages.{gates_from};
-ghost use Rattle.archiving.specs.Traces.{unit_word, unit_words, filled, input_word, input_words};
+ghost use Rattle.archiving.specs.Traces.{made_by, stepped, unit_word, unit_words, filled, input_word, input_words};
 ghost use Rattle.archiving.specs.Listings.{sums, only_sums, mask_lines, column_lines, masks_text, columns_text, sizes_text, checks_text, listed_text, gates_text, play_lines};
 
 use crate::lines::{push_column_line, push_mask_line, push_play};
@@ -90,23 +90,28 @@ fn push_mask_lines(
     Ok(())
 }
 
+// One gate done in each quarter, and what its target then holds there.
+fn do_in_quarters(quarters: &mut [Vec<u64>; 4], gate: Gate) -> [u64; 4]
+    ensures value { result ≡ map (made_by gate) (map vec_items quarters.old) }
+    ensures leaves { map vec_items quarters.new ≡ map (stepped gate) (map vec_items quarters.old) }
+{
+    let mut column = [0; 4];
+    for (k, words) in quarters.iter_mut().enumerate() {
+        column[k] = do_gate(words.as_mut_slice(), gate);
+    }
+    column
+}
+
 fn push_column_lines(
     out: &mut Vec<u8>,
     gates: &[Gate],
-    w0: &mut [u64],
-    w1: &mut [u64],
-    w2: &mut [u64],
-    w3: &mut [u64],
+    quarters: &mut [Vec<u64>; 4],
 ) -> Result<(), AllocError>
-    ensures { OnOk result (out.new.items ≡ out.old.items ++ column_lines 0 w0.old w1.old w2.old w3.old gates.now) }
+    ensures { OnOk result (out.new.items ≡ out.old.items ++ column_lines 0 (map vec_items quarters.old) gates.now) }
 {
     for (i, gate) in gates.iter().enumerate() {
-        let gate = *gate;
-        let x0 = do_gate(w0, gate);
-        let x1 = do_gate(w1, gate);
-        let x2 = do_gate(w2, gate);
-        let x3 = do_gate(w3, gate);
-        push_column_line(out, i as u64, gate, x0, x1, x2, x3)?;
+        let column = do_in_quarters(quarters, *gate);
+        push_column_line(out, i as u64, *gate, &column)?;
     }
     Ok(())
 }
@@ -141,19 +146,14 @@ fn push_columns(
 ) -> Result<(), AllocError>
     ensures { OnOk result (out.new.items ≡ out.old.items ++ columns_text count gates.now) }
 {
-    let mut w0 = input_words(heap, 0, count)?;
-    let mut w1 = input_words(heap, 1, count)?;
-    let mut w2 = input_words(heap, 2, count)?;
-    let mut w3 = input_words(heap, 3, count)?;
+    let mut quarters = [
+        input_words(heap, 3, count)?,
+        input_words(heap, 2, count)?,
+        input_words(heap, 1, count)?,
+        input_words(heap, 0, count)?,
+    ];
     push_text(out, b" gate  kind    t    a    b   column\n")?;
-    push_column_lines(
-        out,
-        gates,
-        w0.as_mut_slice(),
-        w1.as_mut_slice(),
-        w2.as_mut_slice(),
-        w3.as_mut_slice(),
-    )
+    push_column_lines(out, gates, &mut quarters)
 }
 
 fn push_sizes(out: &mut Vec<u8>, gates: usize, sockets: u16, scratch: u16) -> Result<(), AllocError>
@@ -217,6 +217,7 @@ pub fn push_gates(heap: Global, out: &mut Vec<u8>, bytes: &[u8]) -> Result<(), A
 pub fn push_plays(out: &mut Vec<u8>, plan: &[Play], from: usize) -> Result<(), AllocError>
     ensures { OnOk result (out.new.items ≡ out.old.items ++ play_lines from (drop from plan.now)) }
 {
+    // a range, since the index is written too: with enumerate and skip the proof of `skip` did not close
     for i in from..plan.len() {
         push_play(out, i as u64, &plan[i])?;
     }
