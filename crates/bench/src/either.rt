@@ -62,7 +62,6 @@ impl<L: Bench, R: Bench> Bench for EitherBench<L, R> {
         }
     }
 
-    #[inline(always)]
     fn gate(&mut self, kind: Kind, target: u16, a: u16, b: u16) -> Result<(), Fault> {
         match self {
             EitherBench::Left(bench) => bench.gate(kind, target, a, b),
