@@ -62,7 +62,6 @@ impl<L: Bench, R: Bench> Bench for EitherBench<L, R> {
         }
     }
 
-    #[inline(always)]
     fn gate(&mut self, gate: Gate) -> Result<(), Fault> {
         match self {
             EitherBench::Left(bench) => bench.gate(gate),

@@ -1,9 +1,10 @@
 -- The text of a script and the law over it, from their parts. Assumes nothing.
-use Rattle.std.proofs.Common.{◌≡◌, ℕ, List, [], ◌∷◌, ◌++◌, IfOk, Ok, Err, codes, Result, subst}
+use Rattle.std.proofs.Common.{◌≡◌, ℕ, List, [], ◌∷◌, ◌++◌, IfOk, Ok, Err, codes, Option, Result, subst}
+use Rattle.bench.specs.Model.{Model}
 use Rattle.playing.specs.declared.setups.Setup.{Setup}
 use Rattle.playing.specs.Setups.{opens}
 use Rattle.law.specs.Calls.{Asked, Line, log}
-use Rattle.consoling.specs.Runs.{unit_on, Ran, RanBoth, LawOne, LawTwo}
+use Rattle.consoling.specs.Runs.{unit_on, Ran, RanBoth, RanOn, LawOne, LawTwo}
 
 abbrev pub beside_line : List ℕ
 beside_line = codes "beside" ++ (10 ∷ [])
@@ -22,3 +23,7 @@ law_two s t cs cs' bs bs' xs ys ran d e =
     let here : RanBoth (opens s) (opens t) cs bs (log (unit_on s) cs) ys = subst (λ (zs : List Line). RanBoth (opens s) (opens t) cs bs zs ys) ran.one.answers ran in
     let there : LawTwo s t cs bs = subst (λ (zs : List Line). RanBoth (opens s) (opens t) cs bs (log (unit_on s) cs) zs) ran.two.answers here in
     subst (λ (ds : List Asked). LawTwo s t ds bs') d (subst (λ (ds : List Asked). LawTwo s t cs ds) e there)
+
+-- the same run, told of an equal bench
+pub ran_along : {X Y : Type 0} (r : Result X Y) (o : Option Setup) (cs bs : List Asked) (xs ys : List Line) (m n : Model) → IfOk r (λ _. RanOn m o cs bs xs ys) → m ≡ n → IfOk r (λ _. RanOn n o cs bs xs ys)
+ran_along r o cs bs xs ys m n ran e = subst (λ (k : Model). IfOk r (λ _. RanOn k o cs bs xs ys)) e ran

@@ -14,6 +14,7 @@ use law::calls::Entry;
 use law::run::{run, run_both};
 use playing::benchlines::find_bench;
 use playing::memory::SetupMemory;
+use playing::on_bench;
 use playing::setups::Setup;
 use playing::writers::push_answer;
 use std::alloc::{AllocError, Global};
@@ -39,8 +40,26 @@ fn run_scripts<P: Bench + Drop, Q: Bench + Drop>(
     let _units = run_both(one, two, first, second);
 }
 
-// Performs the calls on a unit over the bench of the setup, and the second ones, if any, on a unit of their own; the
-// benches stand over memory of zeros.
+// Performs the calls on a unit over the bench, and the second ones, if any, on a unit over a bench of their own.
+fn run_on<B: Bench + Drop>(
+    heap: Global,
+    bench: B,
+    other: Option<Setup>,
+    first: &mut [Entry],
+    second: &mut [Entry],
+) -> Result<(), AllocError>
+    ensures { OnOk result (RanOn (meaning B.Bench bench) other (asks first.old) (asks second.old) (lines first.new) (lines second.new)) }
+{
+    let Some(other) = other else {
+        run_script(bench, first);
+        return Ok(());
+    };
+    let mut memory = SetupMemory::zeros(heap, other)?;
+    on_bench!(memory.bench(), two => run_scripts(bench, two, first, second));
+    Ok(())
+}
+
+// The same over the benches of the setups, over memory of zeros.
 fn run_setups(
     heap: Global,
     setup: Setup,
@@ -51,18 +70,7 @@ fn run_setups(
     ensures { OnOk result (RanOn (opens setup) other (asks first.old) (asks second.old) (lines first.new) (lines second.new)) }
 {
     let mut memory = SetupMemory::zeros(heap, setup)?;
-    match other {
-        // A bench of words is played as such: asking at each gate which bench there is takes an eighth more time.
-        None => match memory.bench() {
-            EitherBench::Left(words) => run_script(words, first),
-            EitherBench::Right(other) => run_script(other, first),
-        },
-        Some(other) => {
-            let mut beside = SetupMemory::zeros(heap, other)?;
-            run_scripts(memory.bench(), beside.bench(), first, second);
-        }
-    }
-    Ok(())
+    on_bench!(memory.bench(), bench => run_on(heap, bench, other, first, second))
 }
 
 // Performs a script that has no second one, and appends its answers.

@@ -1,8 +1,9 @@
 // The memory of the benches that a script asks for.
 ghost use Rattle.std.specs.Prelude.{◌≡◌, IfOk};
+ghost use Rattle.std.specs.Option.{option_map};
 ghost use Rattle.bench.specs.Model.{told};
 ghost use Rattle.playing.specs.Setups.{opens_one, opens};
-ghost use Rattle.playing.specs.Memory.{holds, holds_both};
+ghost use Rattle.playing.specs.Memory.{holds, holds_beside, holds_both};
 
 use crate::setups::{Setup, Single};
 use bench::benches::Bench;
@@ -14,11 +15,32 @@ use std::alloc::{AllocError, Global};
 
 pub type SingleBench<'a> = EitherBench<WordBench<'a>, RowBench<'a>>;
 
-// The commonest comes first: a bench of words alone, which a caller can take out and play at no cost for the choice.
-pub type SetupBench<'a> = EitherBench<
-    WordBench<'a>,
-    EitherBench<RowBench<'a>, SideBySide<SingleBench<'a>, SingleBench<'a>>>,
+// A bench alone, or with a second one beside it.
+pub type JoinedBench<'a, F> = EitherBench<
+    F,
+    EitherBench<SideBySide<F, WordBench<'a>>, SideBySide<F, RowBench<'a>>>,
 >;
+
+pub type SetupBench<'a> = EitherBench<
+    JoinedBench<'a, WordBench<'a>>,
+    JoinedBench<'a, RowBench<'a>>,
+>;
+
+// Does `$run` with the bench as the type that it has: asking at each gate which one is there takes up to three fifths more
+// time.
+#[macro_export]
+macro_rules! on_bench {
+    ($of_setup:expr, $bench:pat => $run:expr) => {
+        match $of_setup {
+            EitherBench::Left(EitherBench::Left($bench)) => $run,
+            EitherBench::Left(EitherBench::Right(EitherBench::Left($bench))) => $run,
+            EitherBench::Left(EitherBench::Right(EitherBench::Right($bench))) => $run,
+            EitherBench::Right(EitherBench::Left($bench)) => $run,
+            EitherBench::Right(EitherBench::Right(EitherBench::Left($bench))) => $run,
+            EitherBench::Right(EitherBench::Right(EitherBench::Right($bench))) => $run,
+        }
+    };
+}
 
 // The memory of one bench, and its allotment.
 #[derive(Drop)]
@@ -79,6 +101,19 @@ impl SingleMemory {
     }
 }
 
+// The bench, with one over the second memory beside it, if any.
+fn join<'a, F: Bench>(first: F, second: Option<&'a mut SingleMemory>) -> JoinedBench<'a, F>
+    ensures { told ⟦<JoinedBench<'static, F> as Bench>⟧.registers ⟦<JoinedBench<'static, F> as Bench>⟧.lanes ⟦<JoinedBench<'static, F> as Bench>⟧.left ⟦<JoinedBench<'static, F> as Bench>⟧.shows result ≡ holds_beside (told F.registers F.lanes F.left F.shows first) (option_map (λ m. m.now) second.entry) }
+{
+    let Some(memory) = second else {
+        return EitherBench::Left(first);
+    };
+    EitherBench::Right(match memory.bench() {
+        EitherBench::Left(second) => EitherBench::Left(SideBySide { first, second }),
+        EitherBench::Right(second) => EitherBench::Right(SideBySide { first, second }),
+    })
+}
+
 // The memory of one bench, or of two side by side.
 #[derive(Drop)]
 pub struct SetupMemory {
@@ -103,16 +138,9 @@ impl SetupMemory {
     pub fn bench(&mut self) -> SetupBench<'_>
         ensures { told ⟦<SetupBench<'static> as Bench>⟧.registers ⟦<SetupBench<'static> as Bench>⟧.lanes ⟦<SetupBench<'static> as Bench>⟧.left ⟦<SetupBench<'static> as Bench>⟧.shows result ≡ holds_both self.old }
     {
-        let first = self.first.bench();
-        match &mut self.second {
-            Some(memory) => {
-                let second = memory.bench();
-                EitherBench::Right(EitherBench::Right(SideBySide { first, second }))
-            }
-            None => match first {
-                EitherBench::Left(words) => EitherBench::Left(words),
-                EitherBench::Right(rows) => EitherBench::Right(EitherBench::Left(rows)),
-            },
+        match self.first.bench() {
+            EitherBench::Left(words) => EitherBench::Left(join(words, self.second.as_mut())),
+            EitherBench::Right(rows) => EitherBench::Right(join(rows, self.second.as_mut())),
         }
     }
 }

@@ -7,6 +7,7 @@ ghost use Rattle.playing.specs.Runs.{answers, Answered, Stepped, Wrote, script_t
 use crate::answers::{Answer, Refusal};
 use crate::benchlines::find_bench;
 use crate::memory::SetupMemory;
+use crate::on_bench;
 use crate::performs::perform;
 use crate::readers::{is_silent, read_command};
 use crate::setups::Setup;
@@ -83,11 +84,7 @@ fn run_setup(
     let Ok(mut memory) = SetupMemory::zeros(heap, setup) else {
         return push_no_memory(out);
     };
-    // A bench of words is played as such: asking at each gate which bench there is takes an eighth more time.
-    match memory.bench() {
-        EitherBench::Left(mut words) => run(heap, &mut words, lines, out),
-        EitherBench::Right(mut other) => run(heap, &mut other, lines, out),
-    }
+    on_bench!(memory.bench(), mut bench => run(heap, &mut bench, lines, out))
 }
 
 // What is written for a whole script.
