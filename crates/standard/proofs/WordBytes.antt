@@ -5,9 +5,8 @@ use Rattle.std.proofs.lemmas.List.{get_or_append_left, length-append}
 use Rattle.std.proofs.lemmas.List.FromFn.{fill_by_all}
 use Rattle.std.proofs.lemmas.Simd.{get_or-zip2, length-zip2}
 use Rattle.standard.specs.Field.{SBox}
-use Rattle.standard.specs.KeyExpansion.{Word, RotWord, SubWord, xor_word, rcon_word, temp, key_word, word_at, round_key_byte}
-use Rattle.standard.specs.Kinds.{byte_at, key_in, round_key, aes128}
-use Rattle.standard.proofs.Filling.{sixteen_same}
+use Rattle.standard.specs.KeyExpansion.{Word, RotWord, SubWord, xor_word, rcon_word, temp, key_word, word_at}
+use Rattle.standard.specs.Kinds.{byte_at}
 use Rattle.standard.proofs.Words.{first_words, later_words}
 
 -- ---- the standard's temp, for a key of four words
@@ -119,13 +118,3 @@ key_first key rest xs k r e = (
   length-append xs rest ∙ omega (arith, ap length e),
   λ p h. get_or_append_left xs rest 0 p (omega (arith, ap length e)) ∙ ap (λ (bytes : List ℕ). get_or bytes p 0) e ∙ byte_first (byte_at key) p h,
 )
-
--- ---- the round keys that the bytes hold
-pub round_keys_in : (key keys : List ℕ) → ((p : ℕ) → p < 176 → get_or keys p 0 ≡ byte_of (byte_at key) p) → (n : ℕ) → n < 11 → key_in keys n ≡ round_key aes128 key n
-round_keys_in key keys h n hn = sixteen_same (λ j. byte_at keys (16 * n + j)) (round_key_byte 4 (byte_at key) n) at
-  where
-    at : (j : ℕ) → j < 16 → byte_at keys (16 * n + j) ≡ round_key_byte 4 (byte_at key) n j
-    at j hj =
-        let d : (16 * n + j) / 4 ≡ 4 * n + j / 4 = omega arith in
-        let r : (16 * n + j) % 4 ≡ j % 4 = omega arith in
-        h (16 * n + j) (omega arith) ∙ ap₂ (λ (x y : ℕ). get_or (word_at 4 (byte_at key) x) y 0) d r

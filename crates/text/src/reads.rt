@@ -61,7 +61,7 @@ pub fn split_word(line: &[u8]) -> (&[u8], &[u8])
     from_word.split_at(count_before(from_word, SPACE))
 }
 
-// Whether a word is the given text.
+// Whether a word is the given text: `==`, under a name of its own for the scripts' readers.
 pub fn is_word(word: &[u8], text: &[u8]) -> bool
     ensures { result ≡ bytes_eq word.now text.now }
 {

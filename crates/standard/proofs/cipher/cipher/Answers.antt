@@ -5,9 +5,6 @@ use Rattle.standard.proofs.StateLaws.{bytes_from}
 use Rattle.standard.proofs.Loops.{round_more, ciphered_last, deciphered_ciphered}
 use Rattle.standard.proofs.cipher.cipher.Goals as goal
 
-pub loop-n-init : goal.loop-n-init
-loop-n-init c = c.add_round_key-state.ensures ∙ ap (AddRoundKey c.args.block.now) c.key_in.ensures
-
 pub loop-n-preserved : goal.loop-n-preserved
 loop-n-preserved c = c.round-state.ensures ∙ round_more aes128 c.args.keys.now c.args.block.now c.loop-n.n c.loop-n.state (omega arith) c.loop-n.invariant
 

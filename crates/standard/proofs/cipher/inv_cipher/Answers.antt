@@ -5,9 +5,6 @@ use Rattle.standard.proofs.StateLaws.{bytes_from}
 use Rattle.standard.proofs.Loops.{inv_round_more, deciphered_last, ciphered_deciphered}
 use Rattle.standard.proofs.cipher.inv_cipher.Goals as goal
 
-pub loop-n-init : goal.loop-n-init
-loop-n-init c = (omega arith, c.add_round_key-state.ensures ∙ ap (AddRoundKey c.args.block.now) c.key_in.ensures)
-
 pub loop-n-preserved : goal.loop-n-preserved
 loop-n-preserved c =
     let n = c.loop-n.n in

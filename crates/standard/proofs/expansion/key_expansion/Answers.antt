@@ -3,7 +3,7 @@ use lib.Bits.{bit_xor}
 use Rattle.std.proofs.lemmas.List.Edits.{fill_by_more}
 use Rattle.std.proofs.lemmas.List.{length-set}
 use Rattle.standard.specs.Kinds.{byte_at}
-use Rattle.standard.proofs.WordBytes.{byte_of, byte_later, key_first, round_keys_in}
+use Rattle.standard.proofs.WordBytes.{byte_of, byte_later, key_first}
 use Rattle.standard.proofs.expansion.key_expansion.Goals as goal
 
 pub loop-p-init : goal.loop-p-init
@@ -19,6 +19,3 @@ loop-p-preserved c =
       length-set xs p _ ∙ c.loop-p.invariant.0,
       subst (λ (x : ℕ). (k : ℕ) → k < p + 1 → get_or (set xs p x) k 0 ≡ f k) (sym written) (fill_by_more f xs p 0 at c.loop-p.invariant.1),
     )
-
-pub returns : goal.returns
-returns c = round_keys_in c.args.key.now c.loop-p.words (λ p h. c.loop-p.invariant.1 p (omega arith))

@@ -1,6 +1,5 @@
-use Rattle.std.proofs.Common.{rules, ◌≡◌, ◌+◌, ◌*◌, ◌/◌, ◌%◌, [], length, drop, vec_items, Some, sym, ap, ◌∙◌, append-nil, arith}
-use Rattle.std.proofs.lemmas.List.{at_drop_all}
-use Rattle.text.proofs.Pairs.{prefixed, prefixed_nothing, bytes_of, bytes_of_pairs, pair_more, pair_bad, pairs_odd}
+use Rattle.std.proofs.Common.{rules, ◌≡◌, ◌+◌, ◌*◌, ◌/◌, ◌%◌, length, drop, vec_items, sym, ap, ◌∙◌, arith}
+use Rattle.text.proofs.Pairs.{prefixed, prefixed_nothing, bytes_of, bytes_of_pairs, pair_more, pairs_odd}
 use Rattle.text.proofs.reads.hex_pairs.Goals as goal
 
 pub returns-then-not-is_empty : goal.returns-then-not-is_empty
@@ -17,11 +16,6 @@ loop-high-init c =
     ∙ ap bytes_of c.as_chunks.ensures.front
     ∙ bytes_of_pairs (length xs / 2) xs even
 
-pub returns-in_default : goal.returns-in_default
-returns-in_default c =
-    let bad = sym c.hex_byte.ensures ∙ c.in_default.is in
-    sym (pair_bad _ c.loop-high.high-index (search rules) (vec_items c.loop-high.bytes) bad) ∙ c.loop-high.invariant
-
 pub loop-high-preserved : goal.loop-high-preserved
 loop-high-preserved c =
     let had = vec_items c.loop-high.bytes in
@@ -29,9 +23,3 @@ loop-high-preserved c =
     ap (λ l. prefixed l (bytes_of (drop (c.loop-high.high-index + 1) c.as_chunks.result.0.now))) c.in_ok-push.ensures.items
     ∙ sym (pair_more _ c.loop-high.high-index (search rules) had c.in-Some.byte one)
     ∙ c.loop-high.invariant
-
-pub returns : goal.returns
-returns c =
-    let had = vec_items c.loop-high.bytes in
-    let all : bytes_of (drop c.loop-high.high-index c.as_chunks.result.0.now) ≡ Some [] = at_drop_all bytes_of c.as_chunks.result.0.now c.loop-high.high-index (search rules) in
-    sym (sym c.loop-high.invariant ∙ ap (prefixed had) all ∙ ap Some (append-nil had))
