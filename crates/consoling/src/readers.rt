@@ -10,6 +10,7 @@ use law::calls::Call;
 use std::alloc::{AllocError, Global};
 use text::reads::{hex_bytes, lookup, number, split_word};
 
+#[tactic(auto, unfolding(crate::specs::Lines::verb_in))]
 fn read_verb(word: &[u8]) -> Option<Verb>
     ensures { result ≡ verb_in word.now }
 {
