@@ -4,7 +4,7 @@
 --   mask_lines          a line for each gate with its mask, column_lines with its column
 --   gates_text bytes    the sizes and the gates of a page, given as bytes
 --   play_lines i ps     a line for each play; the first has the index i
-use Rattle.std.specs.Prelude.{ℕ, ◌+◌, ◌*◌, Bool, true, false, cond, ◌&&◌, List, [], ◌∷◌, ◌++◌, length, codes, ◌==◌, nat_le}
+use Rattle.std.specs.Prelude.{ℕ, ◌+◌, ◌*◌, Bool, true, false, cond, ◌&&◌, List, [], ◌∷◌, ◌++◌, map, length, codes, ◌==◌, nat_le}
 use Rattle.std.specs.List.{list_all}
 use Rattle.bench.specs.declared.gates.Gate.{Gate}
 use Rattle.bench.specs.declared.kinds.Kind.{Kind}
