@@ -1,7 +1,6 @@
 -- A script's lines, one line taken off. Assumes nothing.
-use Rattle.std.proofs.Common.{◌≡◌, ℕ, ◌+◌, Bool, true, false, ◌&&◌, List, [], ◌∷◌, ◌++◌, Some, None, Option, sym, ap, ◌∙◌, append_assoc, append-nil}
+use Rattle.std.proofs.Common.{◌≡◌, ℕ, ◌+◌, Bool, true, false, ◌&&◌, List, [], ◌∷◌, ◌++◌, Some, None, sym, ap, ◌∙◌, append_assoc, append-nil}
 use Rattle.std.proofs.lemmas.Bool.{cond-true, cond-false}
-use Rattle.text.specs.Ahead.{Ahead}
 use Rattle.playing.specs.Commands.{silent}
 use Rattle.law.specs.Calls.{Asked}
 use Rattle.consoling.specs.declared.turns.Turn.{Turn}
