@@ -1,4 +1,5 @@
-// Single lines: each function appends to what `out` holds.
+// Single lines: each function appends to what `out` holds, and none is a Display, since `write!` says what a String then
+// holds, and these bytes are a Vec.
 ghost use Rattle.std.specs.Prelude.{◌≡◌, ℕ, ◌<◌, ◌≤◌, [], ◌∷◌, ◌++◌, OnOk};
 ghost use Rattle.archiving.specs.Lines.{spaces, padded, kind_text, gate_text, low_text, mark_text, mask_line, words_text, column_line, bases_text, play_line};
 

@@ -5,39 +5,16 @@ ghost use Rattle.text.specs.Text.{number_in, bytes_in};
 ghost use Rattle.law.specs.Calls.{asked};
 ghost use Rattle.consoling.specs.Lines.{verb_in, alone_in, lane_in, reading, call_of, call_in};
 
-use crate::verbs::Verb;
+use crate::verbs::{VERBS, Verb};
 use law::calls::Call;
 use std::alloc::{AllocError, Global};
-use text::reads::{hex_bytes, is_word, number, split_word};
+use text::reads::{hex_bytes, lookup, number, split_word};
 
+#[tactic(auto, unfolding(crate::specs::Lines::verb_in))]
 fn read_verb(word: &[u8]) -> Option<Verb>
     ensures { result ≡ verb_in word.now }
 {
-    if is_word(word, b"key") {
-        Some(Verb::Key)
-    } else if is_word(word, b"block") {
-        Some(Verb::Block)
-    } else if is_word(word, b"clear") {
-        Some(Verb::Clear)
-    } else if is_word(word, b"schedule") {
-        Some(Verb::Schedule)
-    } else if is_word(word, b"seal") {
-        Some(Verb::Seal)
-    } else if is_word(word, b"open") {
-        Some(Verb::Open)
-    } else if is_word(word, b"read") {
-        Some(Verb::Read)
-    } else if is_word(word, b"counts") {
-        Some(Verb::Counts)
-    } else if is_word(word, b"left") {
-        Some(Verb::Left)
-    } else if is_word(word, b"record") {
-        Some(Verb::Record)
-    } else if is_word(word, b"unready") {
-        Some(Verb::Unready)
-    } else {
-        None
-    }
+    lookup(&VERBS, word)
 }
 
 // The call itself where no word follows it.

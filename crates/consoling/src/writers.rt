@@ -1,4 +1,4 @@
-// Writing answers.
+// Writing answers, by functions and not by Display, since `write!` says what a String then holds, and these bytes are a Vec.
 ghost use Rattle.std.specs.Prelude.{◌≡◌, ◌++◌, OnOk};
 ghost use Rattle.law.specs.Calls.{asked, line, lines};
 ghost use Rattle.consoling.specs.Answers.{counts_text, key_name, block_name, record_text, unready_text, reading_text, done_text, reply_text, answer_text};

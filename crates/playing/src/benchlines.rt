@@ -22,8 +22,7 @@ fn next_number(line: &[u8]) -> Option<(u64, &[u8])>
     ensures { MatchOption result (number_in (word_of line.now) ≡ None) (λ p. (number_in (word_of line.now) ≡ Some p.0) × (p.1.now ≡ after_word line.now)) }
 {
     let (word, rest) = split_word(line);
-    let value = number(word)?;
-    Some((value, rest))
+    Some((number(word)?, rest))
 }
 
 // One bench, without the word `bench`, and what follows it.

@@ -6,59 +6,32 @@ ghost use Rattle.playing.specs.Calls.{Call, meant};
 ghost use Rattle.playing.specs.Commands.{silent, verb_in, short_in, shorts_in, alone_in, set_in, show_in, gate_in, called, page_in, command_in};
 
 use crate::commands::Command;
-use crate::verbs::Verb;
+use crate::verbs::{VERBS, Verb};
 use bench::gates::Gate;
 use bench::kinds::Kind;
 use std::alloc::{AllocError, Global};
-use text::reads::{hex_bytes, is_word, number, split_word};
+use text::reads::{hex_bytes, lookup, number, split_word};
 
 const COMMENT: u8 = b'#';
-
-const MOST_SHORT: u64 = 65_535;
 
 // Whether a line is one that is not answered.
 pub fn is_silent(line: &[u8]) -> bool
     ensures { result ≡ silent line.now }
 {
-    if !line.is_empty() && line[0] == COMMENT {
-        return true;
-    }
     let (first, _) = split_word(line);
-    first.is_empty()
+    line.first() == Some(&COMMENT) || first.is_empty()
 }
 
 fn read_verb(word: &[u8]) -> Option<Verb>
     ensures { result ≡ verb_in word.now }
 {
-    if is_word(word, b"registers") {
-        Some(Verb::Registers)
-    } else if is_word(word, b"lanes") {
-        Some(Verb::Lanes)
-    } else if is_word(word, b"left") {
-        Some(Verb::Left)
-    } else if is_word(word, b"set") {
-        Some(Verb::Set)
-    } else if is_word(word, b"show") {
-        Some(Verb::Show)
-    } else if is_word(word, b"gate") {
-        Some(Verb::Gate)
-    } else if is_word(word, b"page") {
-        Some(Verb::Page)
-    } else if is_word(word, b"play") {
-        Some(Verb::Play)
-    } else {
-        None
-    }
+    lookup(&VERBS, word)
 }
 
 fn read_short(word: &[u8]) -> Option<u16>
     ensures { result ≡ short_in word.now }
 {
-    let value = number(word)?;
-    if value > MOST_SHORT {
-        return None;
-    }
-    Some(value as u16)
+    u16::try_from(number(word)?).ok()
 }
 
 // All the words of the line, as numbers.
@@ -83,40 +56,37 @@ fn read_shorts(heap: Global, line: &[u8]) -> Result<Option<Vec<u16>>, AllocError
 fn set_command(numbers: &[u16]) -> Option<Command>
     ensures { option_map meant result ≡ set_in numbers.now }
 {
-    if numbers.len() != 3 || numbers[2] > 1 {
+    let [register, lane, bit @ 0..=1] = *numbers else {
         return None;
-    }
+    };
     Some(Command::Set {
-        register: numbers[0],
-        lane: numbers[1],
-        bit: numbers[2] == 1,
+        register,
+        lane,
+        bit: bit == 1,
     })
 }
 
 fn show_command(numbers: &[u16]) -> Option<Command>
     ensures { option_map meant result ≡ show_in numbers.now }
 {
-    if numbers.len() != 2 {
+    let [register, lane] = *numbers else {
         return None;
-    }
-    Some(Command::Show {
-        register: numbers[0],
-        lane: numbers[1],
-    })
+    };
+    Some(Command::Show { register, lane })
 }
 
 fn gate_command(numbers: &[u16]) -> Option<Command>
     ensures { option_map meant result ≡ gate_in numbers.now }
 {
-    if numbers.len() != 4 || numbers[0] > 5 {
+    let [kind @ 0..=5, target, first, second] = *numbers else {
         return None;
-    }
-    let kind = Kind::try_from(numbers[0] as u8).ok()?;
+    };
+    let kind = Kind::try_from(kind as u8).ok()?;
     Some(Command::Gate(Gate {
         kind,
-        target: numbers[1],
-        first: numbers[2],
-        second: numbers[3],
+        target,
+        first,
+        second,
     }))
 }
 
@@ -124,11 +94,7 @@ fn gate_command(numbers: &[u16]) -> Option<Command>
 fn alone(command: Command, numbers: &[u16]) -> Option<Command>
     ensures { option_map meant result ≡ alone_in (meant command) numbers.now }
 {
-    if numbers.is_empty() {
-        Some(command)
-    } else {
-        None
-    }
+    numbers.is_empty().then_some(command)
 }
 
 fn command_of(verb: Verb, numbers: Vec<u16>) -> Option<Command>
@@ -154,10 +120,7 @@ fn page_command(heap: Global, line: &[u8]) -> Result<Option<Command>, AllocError
     if !extra.is_empty() {
         return Ok(None);
     }
-    match hex_bytes(heap, word)? {
-        Some(bytes) => Ok(Some(Command::Page(bytes))),
-        None => Ok(None),
-    }
+    Ok(hex_bytes(heap, word)?.map(Command::Page))
 }
 
 // The call that a line writes.
@@ -170,9 +133,6 @@ pub fn read_command(heap: Global, line: &[u8]) -> Result<Option<Command>, AllocE
     };
     match verb {
         Verb::Page => page_command(heap, rest),
-        _ => match read_shorts(heap, rest)? {
-            Some(numbers) => Ok(command_of(verb, numbers)),
-            None => Ok(None),
-        },
+        _ => Ok(read_shorts(heap, rest)?.and_then(|numbers| command_of(verb, numbers))),
     }
 }

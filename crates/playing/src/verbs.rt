@@ -10,3 +10,14 @@ pub enum Verb {
     Page,
     Play,
 }
+
+pub const VERBS: [(&[u8], Verb); 8] = [
+    (b"registers", Verb::Registers),
+    (b"lanes", Verb::Lanes),
+    (b"left", Verb::Left),
+    (b"set", Verb::Set),
+    (b"show", Verb::Show),
+    (b"gate", Verb::Gate),
+    (b"page", Verb::Page),
+    (b"play", Verb::Play),
+];

@@ -3,6 +3,7 @@ ghost use Rattle.std.specs.Prelude.{◌≡◌, ◌+◌, ◌-◌, ◌*◌, ◌^�
 ghost use Rattle.std.specs.Option.{option_map};
 ghost use Rattle.std.specs.List.{prefix_len, position};
 ghost use Rattle.std.specs.Str.{bytes_eq};
+ghost use Rattle.text.specs.Tables.{named};
 ghost use Rattle.text.specs.Text.{before, line_of, after_line, word_of, after_word, is_digit, number_in, hex_value, pair_value, pairs_in, bytes_in};
 
 use std::alloc::{AllocError, Global};
@@ -66,6 +67,18 @@ pub fn is_word(word: &[u8], text: &[u8]) -> bool
     ensures { result ≡ bytes_eq word.now text.now }
 {
     word == text
+}
+
+// What the table has for the word, at the first entry that names it.
+pub fn lookup<T: Copy>(table: &[(&[u8], T)], word: &[u8]) -> Option<T>
+    ensures { result ≡ named table.now word.now }
+{
+    for (name, value) in table {
+        if is_word(word, name) {
+            return Some(*value);
+        }
+    }
+    None
 }
 
 // One digit more at the end of a number.

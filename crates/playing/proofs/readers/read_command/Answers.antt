@@ -1,4 +1,4 @@
-use Rattle.std.proofs.Common.{◌≡◌, IfOk, Some, None, vec_items, Option, sym, ap, ◌∙◌, subst}
+use Rattle.std.proofs.Common.{◌≡◌, IfOk, Some, None, vec_items, Option, sym, ap, ◌∙◌, subst, rules}
 use Rattle.std.specs.Option.{option_map}
 use Rattle.text.specs.Text.{word_of, after_word, words_in}
 use Rattle.playing.specs.declared.verbs.Verb.TheVariants.{Page}
@@ -19,18 +19,11 @@ returns-in-Page c =
     let same : page_in (words_in c.split_word.result.1.now) ≡ command_in l = ap (λ r. page_in (words_in r)) c.split_word.ensures.rest ∙ sym (command_is l (Some Page) verb) in
     subst (λ (x : Option Call). IfOk c.page_command.result (λ o. option_map meant o ≡ x)) same c.page_command.ensures
 
-pub returns-in-Some-2 : goal.returns-in-Some-2
-returns-in-Some-2 c =
+pub returns-in_ok-read_shorts-in_default-verb : goal.returns-in_ok-read_shorts-in_default-verb
+returns-in_ok-read_shorts-in_default-verb c =
     let l = c.args.line.now in
     let v = c.in-Some.verb in
     let whole = command_is l (Some v) (c.in-Some.ensures ∙ ap verb_in c.split_word.ensures.word) ∙ numbers_follow v (words_in (after_word l)) c.in_default-verb.not-Page in
-    let numbers : Some (vec_items c.in-Some-2.numbers) ≡ shorts_in (words_in (after_word l)) = sym (ap (option_map vec_items) c.in-Some-2.is) ∙ c.in_ok-numbers-in_default-verb.ensures ∙ ap (λ r. shorts_in (words_in r)) c.split_word.ensures.rest in
-    c.command_of.ensures ∙ ap (called_with v) numbers ∙ sym whole
-
-pub returns-in-None : goal.returns-in-None
-returns-in-None c =
-    let l = c.args.line.now in
-    let v = c.in-Some.verb in
-    let whole = command_is l (Some v) (c.in-Some.ensures ∙ ap verb_in c.split_word.ensures.word) ∙ numbers_follow v (words_in (after_word l)) c.in_default-verb.not-Page in
-    let numbers : None ≡ shorts_in (words_in (after_word l)) = sym (ap (option_map vec_items) c.in-None.is) ∙ c.in_ok-numbers-in_default-verb.ensures ∙ ap (λ r. shorts_in (words_in r)) c.split_word.ensures.rest in
-    ap (called_with v) numbers ∙ sym whole
+    let numbers : option_map vec_items c.in_ok-read_shorts-in_default-verb.field-0 ≡ shorts_in (words_in (after_word l)) = c.in_ok-read_shorts-in_default-verb.ensures ∙ ap (λ r. shorts_in (words_in r)) c.split_word.ensures.rest in
+    let all : command_in l ≡ called_with v (option_map vec_items c.in_ok-read_shorts-in_default-verb.field-0) = whole ∙ ap (called_with v) (sym numbers) in
+    rw all (search rules)
