@@ -1,4 +1,4 @@
-use Rattle.std.proofs.Common.{◌≡◌, ℕ, ap, ◌∙◌, subst}
+use Rattle.std.proofs.Common.{ℕ, ap, ◌∙◌, subst}
 use Rattle.unit.specs.Held.{meaning}
 use Rattle.unit.specs.View.{View}
 use Rattle.law.specs.Calls.{asks, lines}
