@@ -2,4 +2,4 @@ pub mod Calls
 pub mod Bodies
 pub mod Turning
 pub mod Units
-pub mod Texts
+pub mod Benches

@@ -1,5 +1,5 @@
 -- The words of a line by their places, as a reader comes to them. Assumes nothing.
-use Rattle.std.proofs.Common.{◌≡◌, ℕ, ◌+◌, ◌<◌, Bool, true, false, ◌||◌, eqb, List, [], ◌∷◌, length, get_or, drop, Some, None, Option, sym, refl, ap, ◌∙◌, ap₂, ⊎_elim, arith}
+use Rattle.std.proofs.Common.{◌≡◌, ℕ, ◌+◌, ◌<◌, Bool, true, false, eqb, List, [], ◌∷◌, length, get_or, drop, Some, None, Option, sym, refl, ap, ◌∙◌, ap₂, ⊎_elim, arith}
 use Rattle.std.specs.Option.{option_map}
 use Rattle.std.proofs.lemmas.List.{get_or-drop, drop-drop}
 use Rattle.std.specs.Str.{bytes_eq}
@@ -9,7 +9,7 @@ use Rattle.text.proofs.Words.{first_word, later_words, no_words, some_words}
 use Rattle.playing.specs.Calls.{page}
 use Rattle.playing.specs.declared.verbs.Verb.{Verb}
 use Rattle.playing.specs.declared.verbs.Verb.TheVariants.{Registers, Lanes, Left, Set, Show, Gate, Page, Play}
-use Rattle.playing.specs.Commands.{silent, page_in, verb_in, shorts_in, called_with, call_named, command_in}
+use Rattle.playing.specs.Commands.{page_in, verb_in, shorts_in, called_with, call_named, command_in}
 
 -- a reader that has come to word k
 module _ (ws : List (List ℕ)) (k : ℕ) (l : List ℕ) (e : words_in l ≡ drop k ws) where
@@ -41,13 +41,6 @@ two_words l h =
     two_long : (ws : List (List ℕ)) (v : List ℕ) (vs : List (List ℕ)) → drop 1 ws ≡ v ∷ vs → length ws ≡ 1 → ⊥
     two_long [] v vs d one = omega arith
     two_long (w ∷ us) v vs d one = omega (arith, ap length d)
-
-pub not_comment : (l : List ℕ) (b : Bool) → (get_or l 0 0 ≡ 35 → ⊥) → b ≡ eqb (length (word_of l)) 0 → b ≡ silent l
-not_comment l b h e = e ∙ sym (ap (λ t. t || eqb (length (word_of l)) 0) (ne_eqb (get_or l 0 0) 35 h))
-
-pub no_first : (l : List ℕ) → length l ≡ 0 → get_or l 0 0 ≡ 35 → ⊥
-no_first [] e h = omega arith
-no_first (b ∷ bs) e h = omega arith
 
 pub command_is : (l : List ℕ) (v : Option Verb) → v ≡ verb_in (word_of l) → command_in l ≡ call_named v (words_in (after_word l))
 unfolding command_in

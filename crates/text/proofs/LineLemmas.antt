@@ -1,6 +1,5 @@
 -- A text's lines, one line taken off. Assumes nothing.
 use Rattle.std.proofs.Common.{◌≡◌, ℕ, suc, ◌+◌, ◌<◌, false, eqb, List, [], ◌∷◌, length, take, drop, sym, refl, ap, ◌∙◌, ap₂, inl, inr, arith}
-use Rattle.std.proofs.lemmas.List.{length-drop}
 use Rattle.std.proofs.lemmas.Bool.{cases_Bool}
 use Rattle.text.specs.Text.{before, line_of, after_line, on_first, lines_in}
 
@@ -31,6 +30,3 @@ line_off (b ∷ c ∷ bs) h = line_more b (c ∷ bs) (ap (on_first b) (line_off 
 -- the same with the line and the rest that were split off
 pub line_split : (text line rest : List ℕ) → 0 < length text → line ≡ line_of text → rest ≡ after_line text → lines_in text ≡ line ∷ lines_in rest
 line_split text line rest some is after = line_off text some ∙ sym (ap₂ (λ (l r : List ℕ). l ∷ lines_in r) is after)
-
-pub after_shorter : (text : List ℕ) → 0 < length text → length (after_line text) < length text
-after_shorter text h = omega (arith, length-drop (before 10 text + 1) text)

@@ -1,6 +1,6 @@
 use Rattle.std.proofs.Common.{rules}
 use Rattle.law.specs.Calls.{asks, lines}
-use Rattle.consoling.proofs.Texts.{ran_along}
+use Rattle.consoling.proofs.Benches.{ran_along}
 use Rattle.consoling.proofs.runs.run_setups.Goals as goal
 
 pub returns-5 : goal.returns-5

@@ -2,7 +2,7 @@ use Rattle.std.proofs.Common.{◌≡◌, ◌<◌, length, Some, None, vec_items,
 use Rattle.std.proofs.lemmas.Bool.{eqb-true, eqb-false}
 use Rattle.text.specs.Text.{word_of, after_word, words_in, with_first}
 use Rattle.text.proofs.Pairs.{prefixed, prefixed_more}
-use Rattle.text.proofs.Words.{no_words, some_words, after_word_shorter}
+use Rattle.text.proofs.Words.{no_words, some_words}
 use Rattle.playing.specs.Commands.{short_in, shorts_in}
 use Rattle.playing.proofs.readers.read_shorts.Goals as goal
 
@@ -21,13 +21,6 @@ returns-in_default c =
     let some : 0 < length (word_of rest) = omega (arith, ap length word, eqb-false (length c.split_word.result.0.now) 0 (sym c.if-is_empty.ensures)) in
     let bad : short_in (word_of rest) ≡ None = ap short_in (sym word) ∙ sym c.in_default.ensures in
     sym (c.loop-word.invariant ∙ ap (λ ws. prefixed had (shorts_in ws)) (some_words rest some) ∙ ap (λ o. prefixed had (with_first o (shorts_in (words_in (after_word rest))))) bad)
-
-pub loop-word-smaller : goal.loop-word-smaller
-loop-word-smaller c =
-    let rest = c.loop-word.rest.now in
-    let word = c.split_word.ensures.word in
-    let some : 0 < length (word_of rest) = omega (arith, ap length word, eqb-false (length c.split_word.result.0.now) 0 (sym c.if-is_empty.ensures)) in
-    omega (arith, after_word_shorter rest some, ap length c.split_word.ensures.rest)
 
 pub loop-word-preserved : goal.loop-word-preserved
 loop-word-preserved c =
