@@ -4,6 +4,7 @@
 --   answers_text ts xs   what is written for the turns ts, of which those of calls have the answers xs
 --   part_text            what is written for the lines after a bench line
 --   console_text t       what is written for the script t
+--   left_after m cs      the gates left after the calls cs on a unit over a bench of the meaning m
 --   Ran, RanBoth         a list of calls performed on a unit, and two on a unit each: the answers, and the law over them
 --   ConsoleLaw t         the law over the calls of the script t and their answers
 use Rattle.std.specs.Prelude.{◌≡◌, ℕ, Bool, true, false, List, [], ◌∷◌, ◌++◌, Some, None, Ok, Err, codes, Option, Result}
@@ -63,11 +64,10 @@ opened_text (Err r) = answer_line (Err r)
 abbrev pub console_text : List ℕ → List ℕ
 console_text t = opened_text (opening_in 1 (lines_in t))
 
--- the gates left after the calls cs on a unit over a bench of the meaning m
 abbrev pub left_after : Model → List Asked → ℕ
 left_after m cs = (ran (unit_over m) cs).model.left
 
--- those calls, with their lines xs
+-- the calls cs on a unit over a bench of the meaning m, with their lines xs
 pub record Ran (m : Model) (cs : List Asked) (xs : List Line) : Type 0 where
   pub answers : xs ≡ log (unit_over m) cs
   pub law : Lawful m.left xs (left_after m cs)

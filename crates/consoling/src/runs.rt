@@ -77,13 +77,12 @@ fn run_setups(
 fn answer_alone(
     heap: Global,
     setup: Setup,
-    script: Script,
+    mut script: Script,
     out: &mut Vec<u8>,
 ) -> Result<(), AllocError>
     ensures text { OnOk result (out.new.items ≡ out.old.items ++ answers_text script.turns.items (logged (unit_on setup) (asks script.log.items))) }
     ensures law { OnOk result (LawOne setup (asks script.log.items)) }
 {
-    let mut script = script;
     run_setups(heap, setup, None, script.log.as_mut_slice(), &mut [])?;
     push_answers(out, script.turns.as_slice(), script.log.as_slice())
 }
@@ -93,15 +92,13 @@ fn answer_both(
     heap: Global,
     setup: Setup,
     other: Setup,
-    one: Script,
-    two: Script,
+    mut one: Script,
+    mut two: Script,
     out: &mut Vec<u8>,
 ) -> Result<(), AllocError>
     ensures text { OnOk result (out.new.items ≡ out.old.items ++ (answers_text one.turns.items (logged (unit_on setup) (asks one.log.items)) ++ ((codes "beside" ++ (10 ∷ [])) ++ answers_text two.turns.items (logged (unit_on other) (asks two.log.items))))) }
     ensures law { OnOk result (LawTwo setup other (asks one.log.items) (asks two.log.items)) }
 {
-    let mut one = one;
-    let mut two = two;
     run_setups(
         heap,
         setup,

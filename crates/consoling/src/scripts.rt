@@ -53,9 +53,10 @@ pub(crate) fn read_body<'a>(
 ) -> Result<Body<'a>, AllocError>
     ensures { IfOk result (λ b. Parted stop lines.entry.next lines.entry.lines b.script.turns.items (asks b.script.log.items) b.beside) }
 {
-    let turns = Vec::new(heap);
-    let log = Vec::new(heap);
-    let mut script = Script { turns, log };
+    let mut script = Script {
+        turns: Vec::new(heap),
+        log: Vec::new(heap),
+    };
     while let Some(line) = lines.next() {
         if ends(stop, line.text) {
             return Ok(Body {

@@ -2,14 +2,16 @@
 use law::calls::Entry;
 use text::lines::Lines;
 
-// What is written for a line: the answer to the next call, or that the line of this number cannot be read.
+// What is written for a line: the answer to the next call, or that the line of this number cannot be read. Neither is a
+// failure or a lack of the other, so this is no `Result` and no `Option`.
 #[derive(Clone, Copy)]
 pub enum Turn {
     Call,
     Unreadable(u64),
 }
 
-// The lines after the bench line: a turn for each line that is answered, and the calls in order.
+// The lines after the bench line: a turn for each line that is answered, and the calls in order. The calls stand in a list
+// of their own, since the law's `run` takes its entries as one slice.
 #[derive(Drop)]
 pub struct Script {
     pub turns: Vec<Turn>,

@@ -1,4 +1,5 @@
-// Writing an answer.
+// Writing an answer, by functions that append bytes and not as `Display`: that writes to a `String` first, and needs a proof
+// for each number that the library's digits are the `decimal` of the specs, where these need none.
 ghost use Rattle.std.specs.Prelude.{◌≡◌, ◌++◌, OnOk};
 ghost use Rattle.playing.specs.Answers.{spaced, part_name, reply_text, refusal_text, answer_line};
 
