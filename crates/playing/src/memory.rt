@@ -1,7 +1,7 @@
 // The memory of the benches that a script asks for.
 ghost use Rattle.std.specs.Prelude.{◌≡◌, IfOk};
 ghost use Rattle.std.specs.Option.{option_map};
-ghost use Rattle.bench.specs.Model.{told};
+ghost use Rattle.bench.specs.Benches.{meaning};
 ghost use Rattle.playing.specs.Setups.{opens_one, opens};
 ghost use Rattle.playing.specs.Memory.{holds, holds_beside, holds_both};
 
@@ -86,7 +86,7 @@ impl SingleMemory {
 
     // The bench over that memory.
     fn bench(&mut self) -> SingleBench<'_>
-        ensures { told ⟦<SingleBench<'static> as Bench>⟧.registers ⟦<SingleBench<'static> as Bench>⟧.lanes ⟦<SingleBench<'static> as Bench>⟧.left ⟦<SingleBench<'static> as Bench>⟧.shows result ≡ holds self.old }
+        ensures { meaning ⟦<SingleBench<'static> as Bench>⟧ result ≡ holds self.old }
     {
         match self {
             SingleMemory::Word { words, allotment } => {
@@ -103,7 +103,7 @@ impl SingleMemory {
 
 // The bench, with one over the second memory beside it, if any.
 fn join<'a, F: Bench>(first: F, second: Option<&'a mut SingleMemory>) -> JoinedBench<'a, F>
-    ensures { told ⟦<JoinedBench<'static, F> as Bench>⟧.registers ⟦<JoinedBench<'static, F> as Bench>⟧.lanes ⟦<JoinedBench<'static, F> as Bench>⟧.left ⟦<JoinedBench<'static, F> as Bench>⟧.shows result ≡ holds_beside (told F.registers F.lanes F.left F.shows first) (option_map (λ m. m.now) second.entry) }
+    ensures { meaning ⟦<JoinedBench<'static, F> as Bench>⟧ result ≡ holds_beside (meaning F.Bench first) (option_map (λ m. m.now) second.entry) }
 {
     let Some(memory) = second else {
         return EitherBench::Left(first);
@@ -136,7 +136,7 @@ impl SetupMemory {
 
     // The bench over that memory.
     pub fn bench(&mut self) -> SetupBench<'_>
-        ensures { told ⟦<SetupBench<'static> as Bench>⟧.registers ⟦<SetupBench<'static> as Bench>⟧.lanes ⟦<SetupBench<'static> as Bench>⟧.left ⟦<SetupBench<'static> as Bench>⟧.shows result ≡ holds_both self.old }
+        ensures { meaning ⟦<SetupBench<'static> as Bench>⟧ result ≡ holds_both self.old }
     {
         match self.first.bench() {
             EitherBench::Left(words) => EitherBench::Left(join(words, self.second.as_mut())),

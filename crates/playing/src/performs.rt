@@ -1,6 +1,6 @@
 // Doing a call on a bench.
 ghost use Rattle.std.specs.Prelude.{◌≡◌};
-ghost use Rattle.bench.specs.Model.{told};
+ghost use Rattle.bench.specs.Benches.{meaning};
 ghost use Rattle.playing.specs.Calls.{page, meant, page_answer, call_answer, call_leaves, call_beneath, call_keeps};
 
 use crate::answers::{Answer, Reply};
@@ -26,9 +26,9 @@ fn keep_page(kept: &mut Vec<u8>, bytes: Vec<u8>) -> Answer
 
 // Does the call on the bench, with the page that is kept.
 pub fn perform<B: Bench>(bench: &mut B, kept: &mut Vec<u8>, command: Command) -> Answer
-    ensures answer { result ≡ call_answer (told B.registers B.lanes B.left B.shows bench.old) kept.old.items (meant command) }
-    ensures leaves { told B.registers B.lanes B.left B.shows bench.new ≡ call_leaves (told B.registers B.lanes B.left B.shows bench.old) kept.old.items (meant command) }
-    ensures beneath { B.beneath bench.new ≡ call_beneath (told B.registers B.lanes B.left B.shows bench.old) kept.old.items (meant command) (B.beneath bench.old) }
+    ensures answer { result ≡ call_answer (meaning B.Bench bench.old) kept.old.items (meant command) }
+    ensures leaves { meaning B.Bench bench.new ≡ call_leaves (meaning B.Bench bench.old) kept.old.items (meant command) }
+    ensures beneath { B.beneath bench.new ≡ call_beneath (meaning B.Bench bench.old) kept.old.items (meant command) (B.beneath bench.old) }
     ensures keeps { kept.new.items ≡ call_keeps kept.old.items (meant command) }
 {
     match command {

@@ -1,6 +1,6 @@
 // A whole script.
 ghost use Rattle.std.specs.Prelude.{◌≡◌, Bool, [], ◌∷◌, ◌++◌, IfOk, codes, OnOk};
-ghost use Rattle.bench.specs.Model.{told};
+ghost use Rattle.bench.specs.Benches.{meaning};
 ghost use Rattle.playing.specs.Setups.{opens};
 ghost use Rattle.playing.specs.Runs.{answers, Answered, Stepped, Wrote, script_text};
 
@@ -25,7 +25,7 @@ fn respond<B: Bench>(
     kept: &mut Vec<u8>,
     line: Line<'_>,
 ) -> Result<Answer, AllocError>
-    ensures { IfOk result (λ a. Answered (told B.registers B.lanes B.left B.shows bench.old) kept.old.items line.entry.number line.entry.text.now a (told B.registers B.lanes B.left B.shows bench.new) kept.new.items) }
+    ensures { IfOk result (λ a. Answered (meaning B.Bench bench.old) kept.old.items line.entry.number line.entry.text.now a (meaning B.Bench bench.new) kept.new.items) }
 {
     match read_command(heap, line.text)? {
         Some(command) => Ok(perform(bench, kept, command)),
@@ -41,7 +41,7 @@ fn answer_line<B: Bench>(
     line: Line<'_>,
     out: &mut Vec<u8>,
 ) -> Result<(), AllocError>
-    ensures { OnOk result (Stepped (told B.registers B.lanes B.left B.shows bench.old) kept.old.items line.entry.number line.entry.text.now out.old.items out.new.items (told B.registers B.lanes B.left B.shows bench.new) kept.new.items) }
+    ensures { OnOk result (Stepped (meaning B.Bench bench.old) kept.old.items line.entry.number line.entry.text.now out.old.items out.new.items (meaning B.Bench bench.new) kept.new.items) }
 {
     if is_silent(line.text) {
         return Ok(());
@@ -57,7 +57,7 @@ fn run<B: Bench>(
     lines: Lines<'_>,
     out: &mut Vec<u8>,
 ) -> Result<(), AllocError>
-    ensures { OnOk result (out.new.items ≡ out.old.items ++ answers (told B.registers B.lanes B.left B.shows bench.old) [] lines.entry.next lines.entry.lines) }
+    ensures { OnOk result (out.new.items ≡ out.old.items ++ answers (meaning B.Bench bench.old) [] lines.entry.next lines.entry.lines) }
 {
     let mut page = Vec::new(heap);
     for line in lines {
