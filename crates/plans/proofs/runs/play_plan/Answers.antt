@@ -1,6 +1,6 @@
+use Rattle.bench.specs.Benches.{meaning}
 use Rattle.std.proofs.Common.{Err, sym, refl, ap, ◌∙◌, ap₂}
 use Rattle.std.proofs.lemmas.Result.{err_from_is_err_and}
-use Rattle.bench.specs.Model.{told}
 use Rattle.player.specs.Plays.{played, played_in}
 use Rattle.plans.specs.Plays.{do_play, do_play_in}
 use Rattle.plans.proofs.Turns.{answer_stops, carried_stops, answer_goes, carried_goes, answer_ends, carried_ends}
@@ -11,7 +11,7 @@ loop-p-init g c = (refl, refl, refl)
 
 pub returns-in_err-play : goal.returns-in_err-play
 returns-in_err-play g c =
-    let m = told g.B.Bench.registers g.B.Bench.lanes g.B.Bench.left g.B.Bench.shows in
+    let m = meaning g.B.Bench in
     let inv = c.args.inverter.now in let xs = c.args.plan.now in let i = c.loop-p.p-index in
     let said = c.in_err-play.ensures in
     let exit = err_from_is_err_and c.from_residual.result c.from_residual.ensures.1 in
@@ -23,7 +23,7 @@ returns-in_err-play g c =
 
 pub loop-p-preserved : goal.loop-p-preserved
 loop-p-preserved g c =
-    let m = told g.B.Bench.registers g.B.Bench.lanes g.B.Bench.left g.B.Bench.shows in
+    let m = meaning g.B.Bench in
     let inv = c.args.inverter.now in let xs = c.args.plan.now in let i = c.loop-p.p-index in
     let said = c.in_ok-play.ensures in
     let m' = m c.play.new.bench in (
@@ -37,7 +37,7 @@ loop-p-preserved g c =
 
 pub returns : goal.returns
 returns g c =
-    let m = told g.B.Bench.registers g.B.Bench.lanes g.B.Bench.left g.B.Bench.shows in
+    let m = meaning g.B.Bench in
     let inv = c.args.inverter.now in let xs = c.args.plan.now in let i = c.loop-p.p-index in
     record {
       answer = sym (c.loop-p.invariant.0 ∙ answer_ends inv xs i (m c.loop-p.bench) c.loop-p-test.false);

@@ -1,11 +1,11 @@
+use Rattle.bench.specs.Benches.{meaning}
 use Rattle.std.proofs.Common.{◌≡◌, drop}
-use Rattle.bench.specs.Model.{told}
 use Rattle.plans.specs.Plays.{do_play, do_play_in, plays_answer, carried}
 use Rattle.plans.proofs.runs.play_plan.Given as goal
 
 abbrev pub invariant-loop-p : goal.invariant-loop-p
 invariant-loop-p g l =
-    let m = told g.B.Bench.registers g.B.Bench.lanes g.B.Bench.left g.B.Bench.shows in
+    let m = meaning g.B.Bench in
     let inv = l.inverter in let rest = drop l.p-index l.plan in
     (plays_answer inv l.plan (m l.initial.bench) ≡ plays_answer inv rest (m l.bench))
     × (carried inv (do_play inv) l.plan (m l.initial.bench) (m l.initial.bench) ≡ carried inv (do_play inv) rest (m l.bench) (m l.bench))

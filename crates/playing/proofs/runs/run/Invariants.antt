@@ -1,11 +1,11 @@
+use Rattle.bench.specs.Benches.{meaning}
 use Rattle.std.proofs.Common.{◌≡◌, [], ◌++◌, vec_items}
-use Rattle.bench.specs.Model.{told}
 use Rattle.playing.specs.Runs.{answers}
 use Rattle.playing.proofs.runs.run.Given as goal
 
 abbrev pub invariant-loop-line : goal.invariant-loop-line
 invariant-loop-line g l =
-    let m = told g.B.Bench.registers g.B.Bench.lanes g.B.Bench.left g.B.Bench.shows in
+    let m = meaning g.B.Bench in
     let from = l.line-iterator in
     let all = l.initial.line-iterator in
     vec_items l.out ++ answers (m l.bench) (vec_items l.page) from.next from.lines

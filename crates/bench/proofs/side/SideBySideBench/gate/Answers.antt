@@ -1,5 +1,6 @@
+use Rattle.bench.specs.Benches.{meaning}
 use Rattle.std.proofs.Common.{◌≡◌, ◌<◌, min, Ok, sym, ap, ◌∙◌, ap₂, arith, rules}
-use Rattle.bench.specs.Model.{told, both, after, gated, gated_in}
+use Rattle.bench.specs.Model.{both, after, gated, gated_in}
 use Rattle.bench.specs.Side.{side_model}
 use Rattle.bench.proofs.Accepts.{gate_accepted}
 use Rattle.bench.proofs.Sides.{side_gated}
@@ -7,8 +8,8 @@ use Rattle.bench.proofs.side.SideBySideBench.gate.Goals as goal
 
 pub returns : goal.returns
 returns g c =
-    let m = told g.F.Bench.registers g.F.Bench.lanes g.F.Bench.left g.F.Bench.shows c.args.self.now.first in
-    let n = told g.S.Bench.registers g.S.Bench.lanes g.S.Bench.left g.S.Bench.shows c.args.self.now.second in
+    let m = meaning g.F.Bench c.args.self.now.first in
+    let n = meaning g.S.Bench c.args.self.now.second in
     let x = g.F.Bench.beneath c.args.self.now.first in
     let y = g.S.Bench.beneath c.args.self.now.second in
     let k = c.args.gate.kind in

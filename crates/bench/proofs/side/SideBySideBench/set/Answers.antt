@@ -1,5 +1,6 @@
+use Rattle.bench.specs.Benches.{meaning}
 use Rattle.std.proofs.Common.{◌≡◌, ◌-◌, ◌<◌, ◌≤◌, min, Ok, sym, ap, ◌∙◌, arith, rules}
-use Rattle.bench.specs.Model.{told, both, after, written, lanes_in, written_in}
+use Rattle.bench.specs.Model.{both, after, written, lanes_in, written_in}
 use Rattle.bench.specs.Side.{side_model, side_lanes}
 use Rattle.bench.proofs.Accepts.{set_accepted}
 use Rattle.bench.proofs.Sides.{side_written_first, side_written_second, in_first, in_second}
@@ -7,8 +8,8 @@ use Rattle.bench.proofs.side.SideBySideBench.set.Goals as goal
 
 pub returns-then-lane-inner : goal.returns-then-lane-inner
 returns-then-lane-inner g c =
-    let m = told g.F.Bench.registers g.F.Bench.lanes g.F.Bench.left g.F.Bench.shows c.args.self.now.first in
-    let n = told g.S.Bench.registers g.S.Bench.lanes g.S.Bench.left g.S.Bench.shows c.args.self.now.second in
+    let m = meaning g.F.Bench c.args.self.now.first in
+    let n = meaning g.S.Bench c.args.self.now.second in
     let x = g.F.Bench.beneath c.args.self.now.first in
     let y = g.S.Bench.beneath c.args.self.now.second in
     let tie : lanes_in x ≡ m.lanes = g.F.Bench.tied c.args.self.now.first in
@@ -30,8 +31,8 @@ returns-then-lane-inner g c =
 
 pub returns-else-lane-inner : goal.returns-else-lane-inner
 returns-else-lane-inner g c =
-    let m = told g.F.Bench.registers g.F.Bench.lanes g.F.Bench.left g.F.Bench.shows c.args.self.now.first in
-    let n = told g.S.Bench.registers g.S.Bench.lanes g.S.Bench.left g.S.Bench.shows c.args.self.now.second in
+    let m = meaning g.F.Bench c.args.self.now.first in
+    let n = meaning g.S.Bench c.args.self.now.second in
     let x = g.F.Bench.beneath c.args.self.now.first in
     let y = g.S.Bench.beneath c.args.self.now.second in
     let tie : lanes_in x ≡ m.lanes = g.F.Bench.tied c.args.self.now.first in
