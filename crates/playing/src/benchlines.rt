@@ -102,6 +102,7 @@ pub fn read_bench(line: &[u8]) -> Option<Setup>
 pub fn find_bench(mut lines: Lines<'_>) -> Result<Option<(Setup, Lines<'_>)>, Refusal>
     ensures { result ≡ opening_in lines.entry.next lines.entry.lines }
 {
+    // Not `find`: the check leaves open what it passed, and answers would go through its run by induction.
     while let Some(line) = lines.next() {
         if !is_silent(line.text) {
             let setup = read_bench(line.text).ok_or(Refusal::Unreadable(line.number))?;
