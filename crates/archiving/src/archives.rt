@@ -21,7 +21,7 @@ fn push_coordinates(out: &mut Vec<u8>) -> Result<(), AllocError> {
     push_text(out, COORDINATES)?;
     for i in 0..8u8 {
         push_text(out, b"  c")?;
-        push_number(out, i as u64)?;
+        push_number(out, u64::from(i))?;
         push_text(out, b"                ")?;
         push_hex(out, &[from_coordinates(1 << i)])?;
         push_text(out, b"\n")?;
@@ -29,7 +29,7 @@ fn push_coordinates(out: &mut Vec<u8>) -> Result<(), AllocError> {
     push_text(out, TO_COORDINATES)?;
     for i in 0..8u8 {
         push_text(out, b"  ")?;
-        push_number(out, i as u64)?;
+        push_number(out, u64::from(i))?;
         push_text(out, b"     ")?;
         push_hex(out, &[1 << i])?;
         push_text(out, b"           ")?;
@@ -74,7 +74,7 @@ fn push_pages(
 
 fn push_count(out: &mut Vec<u8>, name: &[u8], gates: u32) -> Result<(), AllocError> {
     push_text(out, name)?;
-    push_number(out, gates as u64)?;
+    push_number(out, u64::from(gates))?;
     push_text(out, b"\n")
 }
 

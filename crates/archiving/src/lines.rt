@@ -53,9 +53,9 @@ fn push_gate(out: &mut Vec<u8>, at: u64, gate: Gate) -> Result<(), AllocError>
 {
     push_padded(out, at)?;
     push_text(out, kind_name(gate.kind))?;
-    push_padded(out, gate.target as u64)?;
-    push_padded(out, gate.first as u64)?;
-    push_padded(out, gate.second as u64)?;
+    push_padded(out, u64::from(gate.target))?;
+    push_padded(out, u64::from(gate.first))?;
+    push_padded(out, u64::from(gate.second))?;
     push_text(out, b"   ")
 }
 
@@ -124,7 +124,7 @@ fn push_bases(out: &mut Vec<u8>, bases: &[u16]) -> Result<(), AllocError>
     ensures { OnOk result (out.new.items ≡ out.old.items ++ bases_text bases.now) }
 {
     for base in bases {
-        push_padded(out, *base as u64)?;
+        push_padded(out, u64::from(*base))?;
     }
     Ok(())
 }

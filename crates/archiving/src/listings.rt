@@ -162,9 +162,9 @@ fn push_sizes(out: &mut Vec<u8>, gates: usize, sockets: u16, scratch: u16) -> Re
     push_text(out, b"G = ")?;
     push_number(out, gates as u64)?;
     push_text(out, b", Q = ")?;
-    push_number(out, sockets as u64)?;
+    push_number(out, u64::from(sockets))?;
     push_text(out, b", C = ")?;
-    push_number(out, scratch as u64)?;
+    push_number(out, u64::from(scratch))?;
     push_text(out, b"\n")
 }
 
@@ -177,6 +177,7 @@ fn push_checks(
 ) -> Result<(), AllocError>
     ensures { OnOk result (out.new.items ≡ out.old.items ++ checks_text sockets scratch gates.now) }
 {
+    // casts, and not `usize::from`: the answers speak of the sockets themselves
     let count = 8 * sockets as usize + scratch as usize;
     if sockets <= 8 && only_sums(gates) {
         push_masks(heap, out, gates, sockets, count)

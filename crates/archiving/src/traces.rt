@@ -9,7 +9,7 @@ use bench::gates::Gate;
 fn word_at(words: &[u64], number: u16) -> u64
     ensures { result ≡ slice_index words.now number }
 {
-    words.get(number as usize).copied().unwrap_or(0)
+    words.get(usize::from(number)).copied().unwrap_or(0)
 }
 
 // One gate done on the words, and what its target then holds.

@@ -17,11 +17,11 @@ fn push_counts(out: &mut Vec<u8>, counts: Counts) -> Result<(), AllocError>
     ensures { OnOk result (out.new.items ≡ out.old.items ++ counts_text counts) }
 {
     push_text(out, b"counts ")?;
-    push_number(out, counts.schedule as u64)?;
+    push_number(out, u64::from(counts.schedule))?;
     push_text(out, b" ")?;
-    push_number(out, counts.seal as u64)?;
+    push_number(out, u64::from(counts.seal))?;
     push_text(out, b" ")?;
-    push_number(out, counts.open as u64)?;
+    push_number(out, u64::from(counts.open))?;
     push_text(out, b"\n")
 }
 
