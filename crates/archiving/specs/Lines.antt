@@ -3,6 +3,7 @@
 --   padded n                 spaces, one at least, and the digits of n; four places for these
 --   gate_text i g            gate g with the index i, its kind, target and operands
 --   low_text w n             the lowest n bytes of w in hexadecimal digits, the highest of them first
+--   words_text ws            words whole, one after another
 --   mask_line, column_line   a gate with its check
 --   play_line i p            play p with the index i, its page's name and its bases
 use Rattle.std.specs.Prelude.{ℕ, zero, suc, ◌*◌, ◌/◌, ◌%◌, ◌^◌, cond, List, [], ◌∷◌, ◌++◌, codes, ◌==◌, bit_xor, nat_lt}

@@ -2,6 +2,7 @@
 --
 --   only_sums gs        every gate's target holds a sum of inputs: XOR, XNOR, and AND of a number with itself
 --   mask_lines          a line for each gate with its mask, column_lines with its column
+--   quarters n          the columns of n numbers, a list for each quarter of the 256 cases, the highest first
 --   gates_text bytes    the sizes and the gates of a page, given as bytes
 --   play_lines i ps     a line for each play; the first has the index i
 use Rattle.std.specs.Prelude.{ℕ, ◌+◌, ◌*◌, Bool, true, false, cond, ◌&&◌, List, [], ◌∷◌, ◌++◌, map, length, codes, ◌==◌, nat_le}

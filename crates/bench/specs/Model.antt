@@ -1,4 +1,8 @@
 -- The whole meaning of a bench, and what its calls answer and leave. Assumes nothing.
+--
+--   spot_answer, step_answer   the answer for a register and a lane, and for a gate, by the numbers of them
+--   gates_answer               whether so many gates are left
+--   written, gated             the meaning after one bit is written, and after one gate
 use Rattle.std.specs.Prelude.{◌≡◌, ℕ, ◌+◌, ◌-◌, ◌≤◌, min, Bool, false, cond, ◌&&◌, List, Ok, Err, Result, ◌==◌, nat_lt}
 use Rattle.bench.specs.declared.faults.Question.TheVariants.{Register, Lane, Gates}
 use Rattle.bench.specs.declared.faults.Part.{Part}

@@ -1,6 +1,8 @@
 -- The text of an answer. Assumes nothing.
 --
---   answer_text x   what is written for the call and answer x, with the byte 10 that ends its line
+--   answer_text x    what is written for the call and answer x, with the byte 10 that ends its line
+--   told_text a c    the same, where the call c has the answer a, if it is performed
+--   reply_text r c   the same, where it has the reply r
 use Rattle.std.specs.Prelude.{ℕ, Bool, true, false, List, [], ◌∷◌, ◌++◌, Some, None, Ok, Err, codes, Option}
 use Rattle.text.specs.Text.{decimal, hex_text}
 use Rattle.playing.specs.declared.answers.Reply.TheVariants as reply

@@ -3,6 +3,7 @@
 --   Asked            a call with the bytes that it brings, or with what its buffer holds
 --   Line             a call with its answer, if it is performed; a reading has what its buffer then holds
 --   performed, next  one call on a unit: its line, and what the unit then holds
+--   replied          the line of a call with the reply or the fault that it has
 --   log, ran         the whole list
 use Rattle.std.specs.Prelude.{ℕ, Bool, true, false, List, [], ◌∷◌, map, length, Some, None, Ok, Err, vec_items, Option, Result, slice_index_or}
 use Rattle.standard.specs.Kinds.{key_bytes}

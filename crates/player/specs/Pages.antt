@@ -1,4 +1,8 @@
 -- Pages: when one is whole, and its gates. Assumes nothing.
+--
+--   whole bytes       the bytes are a page: sizes that fit, their length, kinds up to 5, numbers below the bound
+--   gate_at ks ps i   gate i of the kinds ks and the places ps; gates_from ks ps, all of them
+--   gates_of bytes    the gates of a page, given as bytes
 use Rattle.std.specs.Prelude.{◌≡◌, ℕ, zero, suc, ◌+◌, ◌*◌, Bool, ◌&&◌, List, [], ◌∷◌, map, length, take, drop, ◌==◌, nat_le, nat_lt, slice_index}
 use Rattle.std.specs.List.{range_with_len, list_all}
 use Rattle.bench.specs.declared.kinds.Kind.{Kind}
