@@ -19,7 +19,7 @@ use text::writes::{push_hex, push_number, push_text};
 
 fn push_coordinates(out: &mut Vec<u8>) -> Result<(), AllocError> {
     push_text(out, COORDINATES)?;
-    // by number, here and below, since the number of the bit is written too
+    // By number, here and below, since the number of the bit is written too.
     for i in 0..8u8 {
         push_text(out, b"  c")?;
         push_number(out, u64::from(i))?;
@@ -96,7 +96,7 @@ fn front_text(heap: Global) -> Result<Vec<u8>, AllocError> {
     Ok(out)
 }
 
-// What stands behind the plans.
+// What stands after the plans.
 fn back_text(heap: Global) -> Result<Vec<u8>, AllocError> {
     let mut out = Vec::new(heap);
     push_counts(&mut out)?;

@@ -64,7 +64,7 @@ fn push_low(out: &mut Vec<u8>, word: u64, count: u16) -> Result<(), AllocError>
     requires { count ≤ 8 }
     ensures { OnOk result (out.new.items ≡ out.old.items ++ low_text word count) }
 {
-    // byte by byte, since `push_hex` of the word's last bytes would write `-` where these are none
+    // Byte by byte, since `push_hex` of the word's last bytes would write `-` where these are none.
     for j in (0..count).rev() {
         push_hex(out, &[((word >> (8 * j)) % 256) as u8])?;
     }

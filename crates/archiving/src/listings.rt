@@ -218,7 +218,7 @@ pub fn push_gates(heap: Global, out: &mut Vec<u8>, bytes: &[u8]) -> Result<(), A
 pub fn push_plays(out: &mut Vec<u8>, plan: &[Play], from: usize) -> Result<(), AllocError>
     ensures { OnOk result (out.new.items ≡ out.old.items ++ play_lines from (drop from plan.now)) }
 {
-    // a range, since the index is written too: with enumerate and skip the proof of `skip` did not close
+    // By index, which is written too: with `enumerate` and `skip` the proof did not close.
     for i in from..plan.len() {
         push_play(out, i as u64, &plan[i])?;
     }

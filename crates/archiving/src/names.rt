@@ -58,7 +58,7 @@ pub(crate) fn name_of(play: &Play) -> &'static [u8]
     }
 }
 
-// What a page does, in one sentence; a match of its own, since in one of pairs no page would stand on one line.
+// What a page does, in one sentence. Apart from `name_of`: in one match for both, no arm would fit on a line.
 pub(crate) fn purpose_of(play: &Play) -> &'static [u8] {
     match play {
         Play::Add(_) => b"Adds the byte in socket 1 to the byte in socket 0.",

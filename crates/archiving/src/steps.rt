@@ -1,22 +1,42 @@
 // The steps of the plans, each with the rule of its bases.
 use crate::cursors::Step;
 
+// Steps that stand in two stages.
+const INTO_COORDINATES: Step = Step {
+    what: b"The state goes over to coordinates.\nLine j: ENTER, 8*j, 1664.\n",
+    count: 16,
+};
+
+const INVERSES: Step = Step {
+    what: b"ShiftRows and the inverses, from the state into the buffer.\nLine j: INVERT, 8*(5*j mod 16), 1536 + 8*j, 1664.\n",
+    count: 16,
+};
+
+const ROUND_KEY_10: Step = Step {
+    what: b"Round key 10 is added.\nLine j: ADD, 8*j, 1408 + 8*j, 1664.\n",
+    count: 16,
+};
+
+const AFFINE_UNDONE: Step = Step {
+    what: b"The affine rule is undone in the state.\nLine j: UNAFFINE, 8*j, 1664.\n",
+    count: 16,
+};
+
+const INVERSES_BACK: Step = Step {
+    what: b"InvShiftRows and the inverses, from the state into the buffer.\nLine j: INVERT, 8*(13*j mod 16), 1536 + 8*j, 1664.\n",
+    count: 16,
+};
+
 pub(crate) const SEAL_FIRST: [Step; 2] = [
     Step {
         what: b"Round key 0 is added.\nLine j: ADD, 8*j, 128 + 8*j, 1664.\n",
         count: 16,
     },
-    Step {
-        what: b"The state goes over to coordinates.\nLine j: ENTER, 8*j, 1664.\n",
-        count: 16,
-    },
+    INTO_COORDINATES,
 ];
 
 pub(crate) const SEAL_ROUND: [Step; 3] = [
-    Step {
-        what: b"ShiftRows and the inverses, from the state into the buffer.\nLine j: INVERT, 8*(5*j mod 16), 1536 + 8*j, 1664.\n",
-        count: 16,
-    },
+    INVERSES,
     Step {
         what: b"The affine rule and MixColumns, column by column, from the buffer into the state.\nLine c: MIX, 1536 + 32*c, 1544 + 32*c, 1552 + 32*c, 1560 + 32*c,\n32*c, 8 + 32*c, 16 + 32*c, 24 + 32*c, 1664.\n",
         count: 4,
@@ -28,18 +48,12 @@ pub(crate) const SEAL_ROUND: [Step; 3] = [
 ];
 
 pub(crate) const SEAL_LAST: [Step; 3] = [
-    Step {
-        what: b"ShiftRows and the inverses, from the state into the buffer.\nLine j: INVERT, 8*(5*j mod 16), 1536 + 8*j, 1664.\n",
-        count: 16,
-    },
+    INVERSES,
     Step {
         what: b"The affine rule, and back to plain bytes, from the buffer into the state.\nLine j: FINISH, 1536 + 8*j, 8*j, 1664.\n",
         count: 16,
     },
-    Step {
-        what: b"Round key 10 is added.\nLine j: ADD, 8*j, 1408 + 8*j, 1664.\n",
-        count: 16,
-    },
+    ROUND_KEY_10,
 ];
 
 pub(crate) const SCHEDULE_START: [Step; 2] = [
@@ -89,26 +103,11 @@ pub(crate) const SCHEDULE_END: [Step; 1] = [Step {
     count: 16,
 }];
 
-pub(crate) const OPEN_FIRST: [Step; 2] = [
-    Step {
-        what: b"Round key 10 is added.\nLine j: ADD, 8*j, 1408 + 8*j, 1664.\n",
-        count: 16,
-    },
-    Step {
-        what: b"The state goes over to coordinates.\nLine j: ENTER, 8*j, 1664.\n",
-        count: 16,
-    },
-];
+pub(crate) const OPEN_FIRST: [Step; 2] = [ROUND_KEY_10, INTO_COORDINATES];
 
 pub(crate) const OPEN_ROUND: [Step; 4] = [
-    Step {
-        what: b"The affine rule is undone in the state.\nLine j: UNAFFINE, 8*j, 1664.\n",
-        count: 16,
-    },
-    Step {
-        what: b"InvShiftRows and the inverses, from the state into the buffer.\nLine j: INVERT, 8*(13*j mod 16), 1536 + 8*j, 1664.\n",
-        count: 16,
-    },
+    AFFINE_UNDONE,
+    INVERSES_BACK,
     Step {
         what: b"Round key 10 - n is added in the buffer, where n is the stage.\nLine j: ADD, 1536 + 8*j, 128*(11 - n) + 8*j, 1664.\n",
         count: 16,
@@ -120,14 +119,8 @@ pub(crate) const OPEN_ROUND: [Step; 4] = [
 ];
 
 pub(crate) const OPEN_LAST: [Step; 4] = [
-    Step {
-        what: b"The affine rule is undone in the state.\nLine j: UNAFFINE, 8*j, 1664.\n",
-        count: 16,
-    },
-    Step {
-        what: b"InvShiftRows and the inverses, from the state into the buffer.\nLine j: INVERT, 8*(13*j mod 16), 1536 + 8*j, 1664.\n",
-        count: 16,
-    },
+    AFFINE_UNDONE,
+    INVERSES_BACK,
     Step {
         what: b"The buffer goes back to plain bytes.\nLine j: LEAVE, 1536 + 8*j, 1664.\n",
         count: 16,

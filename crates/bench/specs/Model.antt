@@ -46,13 +46,15 @@ within n r next = cond (nat_lt r n) next (Err (fault Register Bench r))
 abbrev pub in_lane : {X : Type 0} → ℕ → ℕ → Result X Fault → Result X Fault
 in_lane n l next = cond (nat_lt l n) next (Err (fault Lane Bench l))
 
--- so many gates for a part, where so many are left
+-- the answer where `who` needs `needed` gates and `left` are left
 abbrev pub gates_answer : Part → ℕ → ℕ → Result (Unit {0}) Fault
 gates_answer who needed left = cond (nat_lt left needed) (Err (fault Gates who (needed - left))) (Ok tt)
 
+-- a register and a lane, of so many
 abbrev pub spot_answer : ℕ → ℕ → ℕ → ℕ → Result (Unit {0}) Fault
 spot_answer registers lanes r l = within registers r (in_lane lanes l (Ok tt))
 
+-- the registers of a gate, of so many, and then whether a gate is left
 abbrev pub step_answer : ℕ → ℕ → ℕ → ℕ → ℕ → Result (Unit {0}) Fault
 step_answer registers left t a b = within registers t (within registers a (within registers b (cond (nat_lt 0 left) (Ok tt) (Err (fault Gates Bench 1)))))
 

@@ -1,4 +1,5 @@
-// The questions that every bench asks of a call, in their order, by its registers, lanes and gates left.
+// The questions that every bench asks of a call, in their order. Each takes the bench's numbers: a method cannot pass its own
+// type to a function with the same bound.
 ghost use Rattle.std.specs.Prelude.{◌≡◌, ◌<◌, ◌≤◌, Ok, OnOk};
 ghost use Rattle.bench.specs.Model.{within, gates_answer, spot_answer, step_answer};
 
@@ -16,7 +17,7 @@ fn ask_register(registers: u16, register: u16) -> Result<(), Fault>
     }
 }
 
-// Whether so many gates are left.
+// Asks, for `part`, whether `needed` gates are left.
 pub fn ask_gates(part: Part, needed: u32, left: u32) -> Result<(), Fault>
     ensures answer { result ≡ gates_answer part needed left }
     ensures has { OnOk result (needed ≤ left) }

@@ -1,4 +1,5 @@
-// A bench of one of two types: each call goes to the one that is there.
+// A bench of one of two types: each call goes to the one that is there. Neither is a failure, so it is no `Result`; and the two
+// types are known, so it is no `dyn`.
 ghost use Rattle.bench.specs.Either.{of_either};
 ghost use Rattle.bench.specs.declared.either.EitherBench.TheVariants.{Left, Right};
 

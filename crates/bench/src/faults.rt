@@ -62,37 +62,35 @@ pub struct Fault {
 }
 
 impl Fault {
+    pub fn new(question: Question, part: Part, place: u64) -> Fault
+        ensures { result ≡ fault question part place }
+    {
+        Fault {
+            question,
+            part,
+            place,
+        }
+    }
+
     // A register that the bench does not have.
     pub fn register(register: u16) -> Fault
         ensures { result ≡ fault Question.Register Part.Bench register }
     {
-        Fault {
-            question: Question::Register,
-            part: Part::Bench,
-            place: register as u64,
-        }
+        Fault::new(Question::Register, Part::Bench, u64::from(register))
     }
 
     // A lane that the bench does not have.
     pub fn lane(lane: u16) -> Fault
         ensures { result ≡ fault Question.Lane Part.Bench lane }
     {
-        Fault {
-            question: Question::Lane,
-            part: Part::Bench,
-            place: lane as u64,
-        }
+        Fault::new(Question::Lane, Part::Bench, u64::from(lane))
     }
 
     // So many gates too few.
     pub fn gates(part: Part, missing: u32) -> Fault
         ensures { result ≡ fault Question.Gates part missing }
     {
-        Fault {
-            question: Question::Gates,
-            part,
-            place: missing as u64,
-        }
+        Fault::new(Question::Gates, part, u64::from(missing))
     }
 
     // The number of the question.

@@ -24,7 +24,8 @@ pub struct RowBench<'a> {
 }
 
 impl<'a> RowBench<'a> {
-    // A width of 0, or above the most, gives a bench of no registers and no lanes.
+    // A width of 0, or above the most, gives a bench of no registers and no lanes. Made, idle and finished as a word bench is;
+    // what the clauses name is another memory, so they are no one function.
     pub fn new(bytes: &'a mut [u8], width: usize, allotment: u32) -> RowBench<'a>
         ensures meaning { row_model result.bytes.now result.width result.left ≡ row_model bytes.old width allotment }
         ensures same { result.bytes.ghost_name ≡ bytes.entry.ghost_name }
@@ -114,7 +115,7 @@ fn gate_rows(bytes: &mut [u8], row: usize, rows: usize, gate: Gate)
     requires { (rows * row ≤ length bytes.old) × ((gate.target / 8 < row) × ((gate.first / 8 < row) × (gate.second / 8 < row))) }
     ensures { bytes.new ≡ rows_done gate.kind gate.target gate.first gate.second row rows bytes.old }
 {
-    // by number: over `chunks_exact_mut` the loop's proof stayed open, as what the rows hold then is known chunk by chunk
+    // By number: over `chunks_exact_mut` the proof stayed open, since it knows the rows only chunk by chunk.
     for lane in 0..rows {
         gate_row(bytes, lane * row, gate);
     }

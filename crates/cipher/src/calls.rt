@@ -33,11 +33,7 @@ pub fn run<B: Bench>(bench: &mut B, plan: Plan) -> Result<(), Fault>
     ensures does { Given (Does aes128 plan) result (meaning B.Bench bench.old) (meaning B.Bench bench.new) }
 {
     if !sized(bench.registers(), bench.lanes()) {
-        return Err(Fault {
-            question: Question::Size,
-            part: Part::Unit,
-            place: 0,
-        });
+        return Err(Fault::new(Question::Size, Part::Unit, 0));
     }
     ask_gates(Part::Unit, plan.gates(), bench.left())?;
     play_plan(bench, own_inverter(), plan.plays())

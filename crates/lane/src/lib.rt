@@ -21,7 +21,7 @@ trait Bits {
         ensures { result ≡ bits self.now at };
 }
 
-// The bits of bytes, eight a byte, and zeros behind them.
+// The bits of bytes, eight a byte, and zeros after them.
 #[derive(Clone, Copy)]
 struct ByteBits<'a>(&'a [u8]);
 
@@ -61,7 +61,7 @@ fn ask_span<B: Bench>(bench: &B, base: u16, count: usize, lane: u16) -> Result<(
     Ok(())
 }
 
-// The registers of so many bytes; more than a bench can have are as good as one too many.
+// How many registers so many bytes take, at most one more than any bench has, so that the product fits.
 fn registers_of(bytes: usize) -> usize
     ensures { result ≡ 8 * min bytes 8192 }
 {
@@ -82,7 +82,7 @@ fn lay<B: Bench, S: Bits>(
     ensures beneath { B.beneath bench.new ≡ after result (laid_in base count lane (S.bits source.now) (B.beneath bench.old)) (B.beneath bench.old) }
 {
     ask_span(bench, base, count, lane)?;
-    // by number, since a bench's registers have numbers and nothing else
+    // By number, since a bench's registers have numbers and nothing else.
     for i in 0..count as u16 {
         bench.set(base + i, lane, source.bit(i))?;
     }
@@ -119,7 +119,7 @@ fn byte_at<B: Bench>(bench: &B, base: u16, lane: u16) -> u8
     ensures { result ≡ byte_of (λ x. (B.shows bench.now).bit x lane) base }
 {
     let mut byte = 0u8;
-    // no fold: that the sum fits a byte needs the loop's invariant, and the closure of a fold has none
+    // No fold: that the sum fits a byte needs the loop's invariant, and the closure of a fold has none.
     for i in (0..8u16).rev() {
         byte = 2 * byte + bit_at(bench, base + i, lane) as u8;
     }

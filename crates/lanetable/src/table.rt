@@ -32,7 +32,7 @@ impl LaneTable {
     pub fn put(&mut self, lane: usize, entry: LaneRecord)
         ensures { self.new.records ≡ slice_set self.old.records lane entry }
     {
-        // By index, since of the element behind `get_mut` of an array a proof knows nothing.
+        // By index: a proof learns nothing of the element that an array's `get_mut` gives.
         if lane < self.records.len() {
             self.records[lane] = entry;
         }

@@ -203,7 +203,7 @@ pub const UNMIX: [u8; 1371] = [
     211, 0, 220, 0, 33, 0, 217, 0, 224,
 ];
 
-// Add round constants 1 to 10 to a byte in coordinates.
+// Add round constants 1 to 10 to a byte in coordinates; an array each, as every page has.
 pub const RCON_1: [u8; 62] = [
     0, 8, 0, 1, 0, 0, 4, 1, 1, 4, 4, 1, 1, 4, 0, 0, 0, 0, 0, 0, 0, 1, 0, 1, 0, 1, 0, 2, 0, 2, 0, 2,
     0, 3, 0, 3, 0, 3, 0, 4, 0, 4, 0, 4, 0, 5, 0, 5, 0, 5, 0, 6, 0, 6, 0, 6, 0, 7, 0, 7, 0, 7,

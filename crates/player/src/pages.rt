@@ -94,11 +94,7 @@ fn numbers_below(places: &[u8], bound: u16) -> bool
 fn not_whole() -> Fault
     ensures { result ≡ fault Whole Reader 0 }
 {
-    Fault {
-        question: Question::Whole,
-        part: Part::Reader,
-        place: 0,
-    }
+    Fault::new(Question::Whole, Part::Reader, 0)
 }
 
 impl<'a> Page<'a> {

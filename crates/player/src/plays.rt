@@ -11,14 +11,13 @@ use bench::benches::Bench;
 use bench::faults::{Fault, Part, Question};
 use bench::gates::Gate;
 
+// The place of the fault where the number of bases is wrong; no base has it.
+const WRONG_COUNT: u64 = 17;
+
 fn misfit(place: u64) -> Fault
     ensures { Err result ≡ ask_bases (Some place) (Ok tt) }
 {
-    Fault {
-        question: Question::Bases,
-        part: Part::Player,
-        place,
-    }
+    Fault::new(Question::Bases, Part::Player, place)
 }
 
 // One base for each socket of a page and one for its scratch, all within the registers of a bench.
@@ -38,7 +37,7 @@ impl<'a> Bases<'a> {
         ensures kept { IfOk result (λ b. (b.sockets ≡ page.now.sockets) × ((b.scratch ≡ page.now.scratch) × ((b.registers ≡ registers) × (b.bases.now ≡ bases.now)))) }
     {
         if bases.len() != page.sockets as usize + 1 {
-            return Err(misfit(17));
+            return Err(misfit(WRONG_COUNT));
         }
         for (i, base) in bases.iter().enumerate() {
             let span = if i < page.sockets as usize {

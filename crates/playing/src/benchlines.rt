@@ -6,15 +6,14 @@ ghost use Rattle.playing.specs.Setups.{words_of, single_in, past_bench, joined_i
 use crate::answers::Refusal;
 use crate::readers::is_silent;
 use crate::setups::{Setup, Single};
+use bench::word::MOST_GATES;
 use text::lines::Lines;
 use text::reads::{is_word, number, split_word};
-
-const MOST_ALLOTMENT: u64 = 1_000_000_000;
 
 fn capped(allotment: u64) -> u32
     ensures { result ≡ min allotment 1000000000 }
 {
-    allotment.min(MOST_ALLOTMENT) as u32
+    allotment.min(MOST_GATES as u64) as u32
 }
 
 // The number that the line begins with, and what follows it.

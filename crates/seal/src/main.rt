@@ -11,6 +11,7 @@ fn main(rt: HostRuntime) -> io::Result<()> {
     let mut out = [0u8; TEXT];
     match seal_text(input.as_slice(), &mut out) {
         Ok(length) => rt.stdout().write_all(&out[0..length]),
+        // a buffer of this length is never refused
         Err(_) => Ok(()),
     }
 }

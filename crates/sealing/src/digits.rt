@@ -3,11 +3,10 @@ ghost use Rattle.std.specs.Prelude.{◌≡◌};
 ghost use Rattle.sealing.specs.Sealed.{hex_line};
 
 use std::array;
+use text::reads::LINE_END;
 use text::writes::hex_digits;
 
 pub const LINE: usize = 33;
-
-const LINE_END: u8 = b'\n';
 
 // Two hexadecimal digits for each byte, and a line end.
 pub(crate) fn hex_line(bytes: &[u8; 16]) -> [u8; 33]

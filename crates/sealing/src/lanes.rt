@@ -14,6 +14,7 @@ use unit::unit::CipherUnit;
 fn place_all<B: Bench>(unit: &mut CipherUnit<B>, key: &[u8; 16], blocks: &[[u8; 16]])
     ensures { view B.Bench unit.new ≡ filled (view B.Bench unit.old) key.now (λ i. slice_index_or blocks.now i []) (length blocks.now) }
 {
+    // The answers are let go, here and below: the definitions say what is left after a refusal too.
     for (lane, block) in blocks.iter().enumerate() {
         let _ = unit.place_key(lane, key);
         let _ = unit.place_block(lane, block);

@@ -41,11 +41,7 @@ pub fn seal_text(input: &[u8], out: &mut [u8]) -> Result<usize, Fault>
     ensures within { IfOk result (λ n. n ≤ 2112) }
 {
     if out.len() != TEXT {
-        return Err(Fault {
-            question: Question::Sixteen,
-            part: Part::Unit,
-            place: out.len() as u64,
-        });
+        return Err(Fault::new(Question::Sixteen, Part::Unit, out.len() as u64));
     }
     match input.as_chunks::<BLOCK>() {
         ([key, blocks @ ..], []) if !blocks.is_empty() && blocks.len() <= MOST_BLOCKS => {

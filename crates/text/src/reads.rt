@@ -8,7 +8,7 @@ ghost use Rattle.text.specs.Text.{before, line_of, after_line, word_of, after_wo
 
 use std::alloc::{AllocError, Global};
 
-const LINE_END: u8 = b'\n';
+pub const LINE_END: u8 = b'\n';
 
 const SPACE: u8 = b' ';
 
@@ -19,7 +19,8 @@ fn find(bytes: &[u8], stop: u8) -> Option<usize>
     bytes.iter().position(|byte| *byte == stop)
 }
 
-// Where the first byte other than `passed` stands, if there is one.
+// Where the first byte other than `passed` stands, if there is one. With the test as a closure the two would be one, but
+// their clauses would speak of its calls.
 fn find_other(bytes: &[u8], passed: u8) -> Option<usize>
     ensures { result ≡ position (λ b. not (b == passed)) bytes.now }
 {
@@ -34,7 +35,7 @@ fn count_before(bytes: &[u8], stop: u8) -> usize
     find(bytes, stop).unwrap_or(bytes.len())
 }
 
-// How many spaces stand in front.
+// How many spaces it begins with.
 fn count_spaces(bytes: &[u8]) -> usize
     ensures value { result ≡ prefix_len (λ b. nat_eq b 32) bytes.now }
     ensures within { result ≤ length bytes.now }
@@ -73,6 +74,7 @@ pub fn is_word(word: &[u8], text: &[u8]) -> bool
 pub fn lookup<T: Copy>(table: &[(&[u8], T)], word: &[u8]) -> Option<T>
     ensures { result ≡ named table.now word.now }
 {
+    // A `for`: from `find` and `map` the readers' definitions, which go from word to word, did not follow.
     for (name, value) in table {
         if is_word(word, name) {
             return Some(*value);
@@ -90,7 +92,7 @@ fn with_digit(value: u64, digit: u8) -> Option<u64>
         .checked_add(u64::from(digit.saturating_sub(b'0')))
 }
 
-// The number that decimal digits write, if it has 64 bits or fewer.
+// The number that decimal digits write, if it has 64 bits or fewer. Not `parse`, which takes a sign too.
 pub fn number(word: &[u8]) -> Option<u64>
     ensures { result ≡ number_in word.now }
 {
@@ -107,6 +109,7 @@ pub fn number(word: &[u8]) -> Option<u64>
     Some(value)
 }
 
+// Not `to_digit`, which takes capital letters too.
 fn hex_value(byte: u8) -> Option<u8>
     ensures { result ≡ hex_value byte }
 {

@@ -11,7 +11,7 @@ pub fn push_text(out: &mut Vec<u8>, text: &[u8]) -> Result<(), AllocError>
     out.extend_from_slice(text)
 }
 
-// Appends the decimal digits of `n`, by recursion: `write!` into bytes has no error for a lack of memory alone.
+// Appends the decimal digits of `n`, by recursion: `write!` into bytes does not tell lack of memory from other errors.
 pub fn push_number(out: &mut Vec<u8>, n: u64) -> Result<(), AllocError>
     ensures appends { OnOk result (out.new.items ≡ out.old.items ++ decimal n) }
     ensures reads_back { number_in (decimal n) ≡ Some n }
@@ -23,6 +23,7 @@ pub fn push_number(out: &mut Vec<u8>, n: u64) -> Result<(), AllocError>
     Ok(())
 }
 
+// Not `from_digit`, which gives a `char` and may give none.
 fn hex_digit(digit: u8) -> u8
     requires { digit < 16 }
     ensures { result ≡ hex_digit digit }

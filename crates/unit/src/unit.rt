@@ -44,11 +44,7 @@ pub struct Counts {
 fn refuse(question: Question, place: usize) -> Fault
     ensures { result ≡ unit_fault question place }
 {
-    Fault {
-        question,
-        part: Part::Unit,
-        place: place as u64,
-    }
+    Fault::new(question, Part::Unit, place as u64)
 }
 
 impl<B: Bench> CipherUnit<B> {
@@ -152,7 +148,8 @@ impl<B: Bench> CipherUnit<B> {
         Ok(())
     }
 
-    // Writes the lane's state; the lane then holds a block.
+    // Writes the lane's state; the lane then holds a block. Apart from `place_key`: with the base and the change of the record
+    // as arguments one function would be no plainer than the two.
     pub fn place_block(&mut self, lane: usize, bytes: &[u8]) -> Result<(), Fault>
         ensures answer { result ≡ given tt (placing 16 (shape_of B.Bench self.old) lane (length bytes.now)) }
         ensures after { view B.Bench self.new ≡ settled (placing 16 (shape_of B.Bench self.old) lane (length bytes.now)) (block_placed (view B.Bench self.old) lane bytes.now) (view B.Bench self.old) }
@@ -199,7 +196,7 @@ impl<B: Bench> CipherUnit<B> {
         run(&mut self.bench, Plan::Seal)
     }
 
-    // Runs the opening's plan in all lanes.
+    // Runs the opening's plan in all lanes. Apart from `seal`: of each lane the two say different things.
     pub fn open(&mut self) -> Result<(), Fault>
         ensures answer { result ≡ given tt (working (shape_of B.Bench self.old) O) }
         ensures after { view B.Bench self.new ≡ settled (working (shape_of B.Bench self.old) O) (opened (view B.Bench self.old)) (view B.Bench self.old) }
