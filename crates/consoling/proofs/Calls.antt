@@ -2,7 +2,7 @@
 use Rattle.std.proofs.Common.{◌≡◌, ℕ, ◌<◌, true, false, eqb, List, [], length, get_or, drop, None, Option, sym, ap, ◌∙◌, ap₂, inl, inr, arith}
 use Rattle.std.proofs.lemmas.Bool.{cond-true, cond-false, eq-eqb, ne_eqb, cases_Bool}
 use Rattle.text.specs.Text.{word_of, after_word, words_in}
-use Rattle.text.proofs.Words.{first_word, later_words}
+use Rattle.text.proofs.WordLemmas.{first_word, later_words}
 use Rattle.playing.proofs.Places.{at_word, past_word, has_words, has_none}
 use Rattle.consoling.specs.declared.verbs.Verb.{Verb}
 use Rattle.consoling.specs.Lines.{verb_in, call_named, call_by}

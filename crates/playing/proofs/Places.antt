@@ -5,7 +5,7 @@ use Rattle.std.proofs.lemmas.List.{get_or-drop, drop-drop}
 use Rattle.std.specs.Str.{bytes_eq}
 use Rattle.std.proofs.lemmas.Bool.{ne_eqb, eqb-true, eqb-false, cond-false, cases_lt}
 use Rattle.text.specs.Text.{word_of, after_word, words_in, bytes_in}
-use Rattle.text.proofs.Words.{first_word, later_words, no_words, some_words}
+use Rattle.text.proofs.WordLemmas.{first_word, later_words, no_words, some_words}
 use Rattle.playing.specs.Calls.{page}
 use Rattle.playing.specs.declared.verbs.Verb.{Verb}
 use Rattle.playing.specs.declared.verbs.Verb.TheVariants.{Registers, Lanes, Left, Set, Show, Gate, Page, Play}

@@ -11,6 +11,7 @@ use bench::gates::Gate;
 use bench::kinds::Kind;
 use std::alloc::{AllocError, Global};
 use text::reads::{hex_bytes, lookup, number, split_word};
+use text::words::Words;
 
 const COMMENT: u8 = b'#';
 
@@ -39,18 +40,13 @@ fn read_shorts(heap: Global, line: &[u8]) -> Result<Option<Vec<u16>>, AllocError
     ensures { IfOk result (λ o. option_map vec_items o ≡ shorts_in (words_in line.now)) }
 {
     let mut numbers = Vec::new(heap);
-    let mut rest = line;
-    loop {
-        let (word, after) = split_word(rest);
-        if word.is_empty() {
-            return Ok(Some(numbers));
-        }
+    for word in Words::of(line) {
         let Some(value) = read_short(word) else {
             return Ok(None);
         };
         numbers.push(value)?;
-        rest = after;
     }
+    Ok(Some(numbers))
 }
 
 fn set_command(numbers: &[u16]) -> Option<Command>

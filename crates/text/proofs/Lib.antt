@@ -2,5 +2,5 @@ pub mod Decimals
 pub mod Numbers
 pub mod Pairs
 pub mod LineLemmas
-pub mod Words
+pub mod WordLemmas
 pub mod Scans

@@ -3,4 +3,5 @@
 
 pub mod lines;
 pub mod reads;
+pub mod words;
 pub mod writes;

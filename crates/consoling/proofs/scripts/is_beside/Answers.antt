@@ -1,7 +1,7 @@
 use Rattle.std.proofs.Common.{◌≡◌, ℕ, true, false, ◌&&◌, eqb, List, [], length, get_or, drop, codes, sym, ap, ◌∙◌}
 use Rattle.std.specs.Str.{bytes_eq}
 use Rattle.text.specs.Text.{words_in}
-use Rattle.text.proofs.Words.{later_words}
+use Rattle.text.proofs.WordLemmas.{later_words}
 use Rattle.playing.proofs.Places.{named}
 use Rattle.consoling.specs.Scripts.{besides}
 use Rattle.consoling.proofs.Calls.{same_empty}

@@ -2,7 +2,7 @@ use Rattle.std.proofs.Common.{◌≡◌, true, false, [], get_or, drop, codes, s
 use Rattle.std.specs.Str.{bytes_eq}
 use Rattle.std.proofs.lemmas.Bool.{cond-true, cond-false}
 use Rattle.text.specs.Text.{words_in}
-use Rattle.text.proofs.Words.{first_word, later_words}
+use Rattle.text.proofs.WordLemmas.{first_word, later_words}
 use Rattle.playing.proofs.benchlines.past_bench.Goals as goal
 
 pub returns-then-is_word : goal.returns-then-is_word

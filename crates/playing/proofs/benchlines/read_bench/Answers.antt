@@ -1,7 +1,7 @@
 use Rattle.std.proofs.Common.{◌≡◌, true, false, drop, Some, None, codes, sym, ap, ◌∙◌}
 use Rattle.std.proofs.lemmas.Bool.{cond-true, cond-false}
 use Rattle.text.specs.Text.{words_in}
-use Rattle.text.proofs.Words.{later_words}
+use Rattle.text.proofs.WordLemmas.{later_words}
 use Rattle.playing.specs.Setups.{words_of, single_in, joined_in, first_in, bench_in}
 use Rattle.playing.proofs.Places.{named}
 use Rattle.playing.proofs.benchlines.read_bench.Goals as goal

@@ -1,6 +1,6 @@
 use Rattle.std.proofs.Common.{◌≡◌, true, false, drop, Some, None, codes, sym, ap, ◌∙◌}
 use Rattle.text.specs.Text.{words_in}
-use Rattle.text.proofs.Words.{later_words}
+use Rattle.text.proofs.WordLemmas.{later_words}
 use Rattle.playing.specs.Setups.{words_of, past_bench, single_in, second_in, joined_in}
 use Rattle.playing.proofs.Places.{has_words, has_none, named}
 use Rattle.playing.proofs.Benches.{joined_is, not_joined, second_last, second_more}

@@ -1,7 +1,7 @@
 use Rattle.std.proofs.Common.{◌≡◌, true, false, [], get_or, drop, Some, None, codes, sym, refl, ap, ◌∙◌}
 use Rattle.std.specs.Str.{bytes_eq}
 use Rattle.text.specs.Text.{number_in, words_in}
-use Rattle.text.proofs.Words.{first_word, later_words}
+use Rattle.text.proofs.WordLemmas.{first_word, later_words}
 use Rattle.playing.specs.declared.setups.Single.TheVariants.{Word, Row}
 use Rattle.playing.proofs.Places.{at_word, past_word}
 use Rattle.playing.proofs.Benches.{word_is, row_is, no_single}
