@@ -1,7 +1,6 @@
 -- A line's words, one word taken off. Assumes nothing.
 use Rattle.std.proofs.Common.{◌≡◌, ℕ, suc, ◌+◌, ◌<◌, true, false, cond, eqb, ◌⊎◌, List, [], ◌∷◌, length, get_or, take, drop, sym, refl, ap, ◌∙◌, ap₂, inl, inr, ⊎_elim, arith}
 use Rattle.std.specs.List.{prefix_len}
-use Rattle.std.proofs.lemmas.List.{length-drop, length-take}
 use Rattle.std.proofs.lemmas.Bool.{cases_Bool}
 use Rattle.text.specs.Text.{before, from_word, word_of, after_word, on_first, on_word, words_in}
 
@@ -72,9 +71,3 @@ no_words line e = ⊎_elim (λ h. h.1) (λ h. absurd (omega (arith, h.0))) (word
 
 pub some_words : (line : List ℕ) → 0 < length (word_of line) → words_in line ≡ word_of line ∷ words_in (after_word line)
 some_words line l = ⊎_elim (λ h. absurd (omega (arith, ap length h.0))) (λ h. h.1) (word_off line)
-
-pub after_word_shorter : (line : List ℕ) → 0 < length (word_of line) → length (after_word line) < length line
-after_word_shorter line h =
-    let from = from_word line in
-    let n = before 32 from in
-    omega (arith, length-take n from, length-drop n from, length-drop (prefix_len (λ b. eqb b 32) line) line)
