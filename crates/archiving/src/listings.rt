@@ -1,7 +1,7 @@
 // Pages gate by gate, and plans play by play: each function appends to what `out` holds.
-ghost use Rattle.std.specs.Prelude.{◌≡◌, ℕ, ◌+◌, ◌*◌, ◌^◌, ◌<◌, ◌≤◌, ◌++◌, map, length, drop, IfOk, OnOk, vec_items};
+ghost use Rattle.std.specs.Prelude.{◌≡◌, ℕ, ◌+◌, ◌-◌, ◌*◌, ◌^◌, ◌<◌, ◌≤◌, ◌++◌, map, length, drop, IfOk, OnOk, vec_items, if◌then◌else◌};
 ghost use Rattle.player.specs.Pages.{gates_from};
-ghost use Rattle.archiving.specs.Traces.{made_by, stepped, unit_word, unit_words, filled, input_word, input_words};
+ghost use Rattle.archiving.specs.Traces.{made_by, stepped, unit_word, unit_words, input_word, input_words};
 ghost use Rattle.archiving.specs.Listings.{sums, only_sums, mask_lines, column_lines, masks_text, columns_text, sizes_text, checks_text, listed_text, gates_text, play_lines};
 
 use crate::lines::{push_column_line, push_mask_line, push_play};
@@ -43,10 +43,10 @@ fn unit_words(heap: Global, inputs: usize, count: usize) -> Result<Vec<u64>, All
     (0..count).map(|n| unit_word(inputs, n)).collect(heap)
 }
 
-fn filled_by(bit: u8) -> u64
-    ensures { result ≡ filled bit }
+fn filled_by(bit: bool) -> u64
+    ensures { result ≡ (if bit then 2 ^ 64 - 1 else 0) }
 {
-    if bit == 1 { u64::MAX } else { 0 }
+    if bit { u64::MAX } else { 0 }
 }
 
 // Bit n of the bytes 64 * quarter, 64 * quarter + 1, .., 64 * quarter + 63.
@@ -60,8 +60,8 @@ fn input_word(quarter: u8, n: usize) -> u64
         3 => 0xff00_ff00_ff00_ff00,
         4 => 0xffff_0000_ffff_0000,
         5 => 0xffff_ffff_0000_0000,
-        6 => filled_by(quarter % 2),
-        7 => filled_by(quarter / 2 % 2),
+        6 => filled_by(quarter % 2 == 1),
+        7 => filled_by(quarter / 2 % 2 == 1),
         _ => 0,
     }
 }
