@@ -1,12 +1,12 @@
 // The questions that every bench asks of a call, in their order. Each takes the bench's numbers: a method cannot pass its own
 // type to a function with the same bound.
 ghost use Rattle.std.specs.Prelude.{◌≡◌, ◌<◌, ◌≤◌, Ok, OnOk};
-ghost use Rattle.bench.specs.Model.{within, gates_answer, spot_answer, step_answer};
+ghost use Rattle.bench.specs.Model.{within, in_lane, gates_answer, spot_answer, step_answer};
 
 use crate::faults::{Fault, Part};
 use crate::gates::Gate;
 
-fn ask_register(registers: u16, register: u16) -> Result<(), Fault>
+pub(crate) fn ask_register(registers: u16, register: u16) -> Result<(), Fault>
     ensures answer { result ≡ within registers register (Ok tt) }
     ensures has { OnOk result (register < registers) }
 {
@@ -14,6 +14,17 @@ fn ask_register(registers: u16, register: u16) -> Result<(), Fault>
         Ok(())
     } else {
         Err(Fault::register(register))
+    }
+}
+
+pub(crate) fn ask_lane(lanes: u16, lane: u16) -> Result<(), Fault>
+    ensures answer { result ≡ in_lane lanes lane (Ok tt) }
+    ensures has { OnOk result (lane < lanes) }
+{
+    if lane < lanes {
+        Ok(())
+    } else {
+        Err(Fault::lane(lane))
     }
 }
 
@@ -35,11 +46,7 @@ pub(crate) fn ask_spot(registers: u16, lanes: u16, register: u16, lane: u16) -> 
     ensures has { OnOk result ((register < registers) × (lane < lanes)) }
 {
     ask_register(registers, register)?;
-    if lane < lanes {
-        Ok(())
-    } else {
-        Err(Fault::lane(lane))
-    }
+    ask_lane(lanes, lane)
 }
 
 // The target, the operands, and then whether a gate is left.

@@ -5,7 +5,7 @@ ghost use Rattle.bench.specs.Benches.{meaning};
 ghost use Rattle.bench.specs.Model.{both};
 ghost use Rattle.bench.specs.Side.{side_lanes, side_bit, side_lawful};
 
-use crate::asks::{ask_gate, ask_spot};
+use crate::asks::{ask_gate, ask_lane, ask_register, ask_spot};
 use crate::benches::Bench;
 use crate::faults::Fault;
 use crate::gates::Gate;
@@ -53,8 +53,12 @@ impl<F: Bench, S: Bench> Bench for SideBySide<F, S> {
         }
     }
 
+    // Inlined, so that a loop over one lane is one loop.
+    #[inline(always)]
     fn set(&mut self, register: u16, lane: u16, value: bool) -> Result<(), Fault> {
-        ask_spot(self.registers(), self.lanes(), register, lane)?;
+        // One by one: of a register that is there a row bench's lanes need not be reckoned twice.
+        ask_register(self.registers(), register)?;
+        ask_lane(self.lanes(), lane)?;
         let inner = self.first.lanes();
         if lane < inner {
             self.first.set(register, lane, value)

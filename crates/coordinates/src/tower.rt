@@ -14,7 +14,8 @@ fn middle_power(y: u8) -> u8
     field::mul(y8, y8)
 }
 
-// The sum of a byte and its sixteenth power, each times a byte of its own.
+// The sum of a byte and its sixteenth power, each times a byte of its own. Inlined, so that the products are by constants.
+#[inline(always)]
 fn part(of_byte: u8, of_power: u8, u: u8) -> u8
     ensures { result ≡ bit_xor (mul of_byte u) (mul of_power (power16 u)) }
 {

@@ -46,6 +46,7 @@ impl Bits for NoBits {
 }
 
 // Asks whether the bench has `count` registers from `base` on, and then for the lane.
+#[inline(always)]
 fn ask_span<B: Bench>(bench: &B, base: u16, count: usize, lane: u16) -> Result<(), Fault>
     requires { count ≤ 65536 }
     ensures answer { result ≡ span_answer (meaning B.Bench bench.now) base count lane }
@@ -68,7 +69,9 @@ fn registers_of(bytes: usize) -> usize
     8 * bytes.min(8_192)
 }
 
-// Writes the first bits into the lane's registers from `base` on.
+// Writes the first bits into the lane's registers from `base` on. Inlined, with what calls it and what it asks: called, its
+// loop reads the bench's fields again for each register.
+#[inline(always)]
 fn lay<B: Bench, S: Bits>(
     bench: &mut B,
     base: u16,
@@ -90,6 +93,7 @@ fn lay<B: Bench, S: Bits>(
 }
 
 // Writes the bytes into the lane's registers from `base` on.
+#[inline(always)]
 pub fn place_bytes<B: Bench>(bench: &mut B, base: u16, lane: u16, bytes: &[u8]) -> Result<(), Fault>
     ensures answer { result ≡ span_answer (meaning B.Bench bench.old) base (8 * length bytes.now) lane }
     ensures leaves { meaning B.Bench bench.new ≡ after result (laid base (8 * length bytes.now) lane (bits_of bytes.now) (meaning B.Bench bench.old)) (meaning B.Bench bench.old) }
@@ -105,6 +109,7 @@ pub fn place_bytes<B: Bench>(bench: &mut B, base: u16, lane: u16, bytes: &[u8]) 
 }
 
 // Zeroes the lane's first `count` registers.
+#[inline(always)]
 pub fn clear_lane<B: Bench>(bench: &mut B, lane: u16, count: u16) -> Result<(), Fault>
     ensures answer { result ≡ span_answer (meaning B.Bench bench.old) 0 count lane }
     ensures leaves { meaning B.Bench bench.new ≡ after result (zeroed count lane (meaning B.Bench bench.old)) (meaning B.Bench bench.old) }

@@ -38,7 +38,9 @@ impl LaneTable {
         }
     }
 
-    // Every placed key becomes scheduled.
+    // Every placed key becomes scheduled. Not inlined, nor are the three below: a unit's calls stand in one function for each
+    // bench, and where that grows too large a row bench's loops over one lane cost up to three times as much.
+    #[inline(never)]
     pub fn schedule(&mut self)
         ensures { self.new.records ≡ map promotes self.old.records }
     {
@@ -48,6 +50,7 @@ impl LaneTable {
     }
 
     // Whether some lane has a key that waits to be scheduled.
+    #[inline(never)]
     pub fn has_placed(&self) -> bool
         ensures { result ≡ any_placed self.now.records }
     {
@@ -55,6 +58,7 @@ impl LaneTable {
     }
 
     // Whether some lane holds a block.
+    #[inline(never)]
     pub fn has_block(&self) -> bool
         ensures { result ≡ any_block self.now.records }
     {
@@ -62,6 +66,7 @@ impl LaneTable {
     }
 
     // The lowest lane that holds a block without a scheduled key, if any.
+    #[inline(never)]
     pub fn unready(&self) -> Option<usize>
         ensures { result ≡ lowest_unready self.now.records }
     {

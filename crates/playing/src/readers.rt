@@ -19,8 +19,8 @@ const COMMENT: u8 = b'#';
 pub fn is_silent(line: &[u8]) -> bool
     ensures { result ≡ silent line.now }
 {
-    let (first, _) = split_word(line);
-    line.first() == Some(&COMMENT) || first.is_empty()
+    // The `#` first, so that a comment is not read for a word.
+    matches!(line, [COMMENT, ..]) || split_word(line).0.is_empty()
 }
 
 fn read_verb(word: &[u8]) -> Option<Verb>

@@ -9,10 +9,10 @@ module _ (p : ℕ → Bool) (xs : List ℕ) where
   abbrev at : ℕ
   at = position_or_len p xs
 
-  inside : at < length xs → position p xs ≡ Some at
+  pub inside : at < length xs → position p xs ≡ Some at
   inside h = cond-true (ltb at (length xs)) (Some at) None (lt-ltb at (length xs) h)
 
-  nowhere : length xs ≤ at → position p xs ≡ None
+  pub nowhere : length xs ≤ at → position p xs ≡ None
   nowhere h = cond-false (ltb at (length xs)) (Some at) None (le-ltb at (length xs) h)
 
   ends : length xs ≤ at → at ≡ length xs

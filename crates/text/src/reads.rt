@@ -16,7 +16,13 @@ const SPACE: u8 = b' ';
 fn find(bytes: &[u8], stop: u8) -> Option<usize>
     ensures { result ≡ position (λ b. b == stop) bytes.now }
 {
-    bytes.iter().position(|byte| *byte == stop)
+    // A `for`: over `position` each byte costs an instruction more, and most bytes of a script are passed here.
+    for (i, byte) in bytes.iter().enumerate() {
+        if *byte == stop {
+            return Some(i);
+        }
+    }
+    None
 }
 
 // Where the first byte other than `passed` stands, if there is one. With the test as a closure the two would be one, but
